@@ -1,0 +1,4 @@
+pub mod Calls
+pub mod Columns
+pub mod Digits
+pub mod Places
