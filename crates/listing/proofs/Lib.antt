@@ -1,0 +1,2 @@
+mod Appended
+mod Counted
