@@ -10,7 +10,8 @@ use crate::refusals::ReadErrorFromRefusal;
 use crate::refusals::ReadErrorFromRefused;
 use std::alloc::Global;
 
-/// The packets of a capture, in file order, for a board that shows so many bearers.
+/// The packets of a capture, in file order, for a board that shows so many bearers. It answers what the bytes mean,
+/// and so, of a file that was written by the format's rules, the packets that were written.
 pub fn read(heap: Global, bytes: &[u8], shown: usize) -> Result<Vec<Captured>, ReadError>
     ensures value { λ r. ⌜ Tells (meaning shown (now (bytes .entry))) r ⌝ }
     ensures faithful { λ r. ⌜ ((f : File) → Sound shown f → now (bytes .entry) ≡ written f → Tells (Ok (recorded f)) r) ⌝ }
