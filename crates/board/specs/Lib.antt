@@ -1,0 +1,5 @@
+pub mod Bearers
+pub mod Costs
+pub mod Line
+pub mod Pairs
+pub mod Shown
