@@ -60,8 +60,7 @@ module _ (s : List Slot) (n : ℕ) where
           marks = λ k.
               ⊎-elim
               (λ (q : m ≡ k).
-              ap (getD (set seen m true) k) refl
-              ∙ ap (λ j. getD (set seen m true) j false) (sym q)
+              ap (λ j. getD (set seen m true) j false) (sym q)
               ∙ getD-set-same seen m true false (omega (arith, h .size, own .0))
               ∙ sym (any-more i k l ∙ or-right _ _ (own .1 k ∙ eq-eqb m k q)))
               (λ (q : m ≡ k → ⊥).
