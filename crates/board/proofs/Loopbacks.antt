@@ -7,7 +7,7 @@ use Prim.Native.Nat.{ℕ, _<_, _≤_}
 use lib.ListN.{length, set}
 use Rattle.std.specs.Finite.{nth}
 use Rattle.std.proofs.shelf.Lists.{getD-past}
-use Rattle.std.proofs.shelf.Tests.{cases-lt, cond-both}
+use Rattle.std.proofs.shelf.Tests.{both-ways, cases-lt, cond-both, cond-true, or-right}
 use Rattle.board.specs.declared.packets.Packet.{Packet}
 use Rattle.board.specs.Bearers.{Bearer, absent, bearer-of, changed, has-room, after-offer, after-take, after-arm, after-disarm}
 use Rattle.board.proofs.Changes.{bearer-changed, changed-twice, changed-past}
@@ -28,12 +28,40 @@ armed-offer : (p : Packet) (raises : Bool) (x : Bearer) → after-disarm (after-
 armed-offer p raises x =
     disarm-offer p (after-arm raises x) ∙ ap (after-offer p) (disarm-arm raises x) ∙ sym (disarm-offer p x)
 
+arm-armed : (raises : Bool) (x : Bearer) → after-arm raises x .armed ≡ true
+arm-armed raises x = cond-both (x .armed) x _ (λ (y : Bearer). y .armed ≡ true) (λ e. e) (λ e. refl)
+
+-- an armed bearer with room raises its signal
+offer-raises : (p : Packet) (x : Bearer) → has-room x ≡ true → x .armed ≡ true → after-offer p x .signal ≡ true
+offer-raises p x room armed = ap (λ (y : Bearer). y .signal) (cond-true (has-room x) _ x room) ∙ or-right (x .signal) (x .armed) armed
+
 module _ (bs bs₁ bs₂ : List Bearer) (b : ℕ) (p : Packet) (raises : Bool) (e₁ : bs₁ ≡ changed bs b (after-arm raises)) (e₂ : bs₂ ≡ changed bs₁ b (after-offer p)) where
   armed-offered : bs₂ ≡ changed bs b (λ x. after-offer p (after-arm raises x))
   armed-offered = e₂ ∙ ap (λ z. changed z b (after-offer p)) e₁ ∙ changed-twice bs b (after-arm raises) (after-offer p)
 
-  pub loops-value : bearer-of bs₂ b .waiting ≡ after-offer p (bearer-of bs b) .waiting
-  loops-value =
+  pub accepted : has-room (bearer-of bs₁ b) ≡ has-room (bearer-of bs b)
+  accepted =
+      ap (λ z. has-room (bearer-of z b)) e₁
+      ∙ ⊎-elim
+      (λ (l : b < length bs).
+      ap has-room (bearer-changed bs b (after-arm raises) l) ∙ ap has-room (disarm-arm raises (bearer-of bs b)))
+      (λ (l : length bs ≤ b). ap (λ z. has-room (bearer-of z b)) (changed-past bs b (after-arm raises) l))
+      (cases-lt b (length bs))
+
+  pub loops-raised : has-room (bearer-of bs₁ b) ≡ true → bearer-of bs₂ b .signal ≡ true
+  loops-raised room =
+      ⊎-elim
+      (λ (l : b < length bs).
+      let x = bearer-of bs b in
+      ap (λ z. bearer-of z b .signal) armed-offered
+      ∙ ap (λ (y : Bearer). y .signal) (bearer-changed bs b (λ y. after-offer p (after-arm raises y)) l)
+      ∙ offer-raises p (after-arm raises x) (ap has-room (disarm-arm raises x) ∙ sym accepted ∙ room) (arm-armed raises x))
+      (λ (l : length bs ≤ b).
+      absurd (both-ways _ (ap has-room (getD-past bs b absent l)) (sym accepted ∙ room)))
+      (cases-lt b (length bs))
+
+  pub loops-came : bearer-of bs₂ b .waiting ≡ after-offer p (bearer-of bs b) .waiting
+  loops-came =
       ap (λ z. bearer-of z b .waiting) armed-offered
       ∙ ⊎-elim
       (λ (l : b < length bs).

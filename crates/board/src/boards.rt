@@ -6,6 +6,8 @@ ghost use lib.ListN.{length};
 ghost use Rattle.std.specs.Finite.{nth};
 ghost use Rattle.board.specs.Bearers.{Bearer, Lawful, bearer-of, has-room, changed, after-offer, after-take, after-arm, after-disarm};
 use crate::packets::Packet;
+use crate::packets::PacketDebug;
+use crate::packets::PacketPartialEq;
 
 /// One to eight bearers, numbered from 0. How many there are, their depths and their costs never change.
 ///
@@ -56,15 +58,24 @@ pub trait Board {
         ensures after { λ _. ⌜ bearers (now (self .exit)) ≡ changed (bearers (now (self .entry))) bearer after-disarm ⌝ };
 }
 
-/// Passes a packet through a bearer, as a self-test does: what comes out is the oldest packet then, and the bearer is
-/// left disarmed.
-pub fn loopback<B: Board>(board: &mut B, bearer: usize, packet: Packet) -> Option<Packet>
-    ensures value { λ r. ⌜ r ≡ nth (after-offer packet (bearer-of (bearers (now (board .entry))) bearer) .waiting) 0 ⌝ }
+/// What came of a packet's way through a bearer.
+#[derive(Clone, Copy, PartialEq, Eq, Debug)]
+pub struct Looped {
+    /// Whether the bearer took the packet and raised its signal.
+    pub raised: bool,
+    /// What came out: the oldest packet then.
+    pub came: Option<Packet>,
+}
+
+/// Passes a packet through a bearer, as a self-test does. The bearer is left disarmed.
+pub fn loopback<B: Board>(board: &mut B, bearer: usize, packet: Packet) -> Looped
+    ensures raised { λ r. ⌜ r .raised ≡ has-room (bearer-of (bearers (now (board .entry))) bearer) ⌝ }
+    ensures came { λ r. ⌜ r .came ≡ nth (after-offer packet (bearer-of (bearers (now (board .entry))) bearer) .waiting) 0 ⌝ }
     ensures after { λ _. ⌜ bearers (now (board .exit)) ≡ changed (bearers (now (board .entry))) bearer (λ x. after-disarm (after-take (after-offer packet x))) ⌝ }
 {
     board.arm(bearer);
-    board.offer(bearer, packet);
+    let raised = board.offer(bearer, packet) && board.signal(bearer);
     let came = board.take(bearer);
     board.disarm(bearer);
-    came
+    Looped { raised, came }
 }

@@ -12,6 +12,10 @@ mod ring_bearers;
 mod tests;
 
 pub use boards::Board;
+pub use boards::Looped;
+pub use boards::LoopedDebug;
+pub use boards::LoopedEq;
+pub use boards::LoopedPartialEq;
 pub use boards::loopback;
 pub use mailboxes::MailboxBearer;
 pub use mailboxes::MailboxBearerBoard;

@@ -201,17 +201,20 @@ fn nested_pair_bearer_by_bearer() -> Result<(), Fail> {
         check_eq(board.depth(bearer), depth as usize)?;
         check_eq(board.cost(bearer), cost)?;
         check(board.offer(bearer, packet(depth)))?;
-        check_eq(
-            loopback(&mut board, bearer, packet(cost)),
-            Some(packet(depth)),
-        )?;
+        let looped = loopback(&mut board, bearer, packet(cost));
+        check_eq(looped.came, Some(packet(depth)))?;
+        check(looped.raised)?;
         check_eq(board.waiting(bearer), 1)?;
         check(!board.signal(bearer))?;
     }
-    for (bearer, _, cost) in cases {
-        check_eq(board.take(bearer), Some(packet(cost)))?;
-    }
-    Ok(())
+    check_eq(board.take(0), Some(packet(200)))?;
+    check_eq(board.take(1), Some(packet(120)))?;
+    check_eq(board.take(2), Some(packet(200)))?;
+    let absent = Looped {
+        raised: false,
+        came: None,
+    };
+    check_eq(loopback(&mut board, 3, packet(1)), absent)
 }
 
 #[test]
