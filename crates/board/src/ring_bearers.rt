@@ -5,7 +5,7 @@ ghost use Prim.Native.Nat.{min};
 ghost use lib.ListN.{length};
 ghost use Rattle.std.specs.Finite.{nth};
 ghost use Rattle.ring.specs.Queue.{beyond};
-ghost use Rattle.board.specs.Bearers.{bearer-of, has-room, changed, after-offer, after-take, after-arm};
+ghost use Rattle.board.specs.Bearers.{bearer-of, has-room, changed, after-offer, after-take, after-arm, after-disarm};
 ghost use Rattle.board.specs.Shown.{ring-bearer};
 use crate::boards::Board;
 use crate::packets::Packet;
@@ -90,6 +90,7 @@ pub impl<'a> Board for RingBearer<'a> as RingBearerBoard {
     fn arm(&mut self, bearer: usize)
         ensures after { λ _. ⌜ ((raises : Bool) × (ring-bearer (now (self .exit)) ∷ [] ≡ changed (ring-bearer (now (self .entry)) ∷ []) bearer (after-arm raises))) ⌝ }
         ensures level { λ _. ⌜ ring-bearer (now (self .exit)) ∷ [] ≡ changed (ring-bearer (now (self .entry)) ∷ []) bearer (after-arm true) ⌝ }
+        ensures same { λ _. ⌜ now (self .exit) .ring .slots ≡ now (self .entry) .ring .slots ⌝ }
     {
         if bearer == 0 && !self.armed {
             self.armed = true;
@@ -97,7 +98,10 @@ pub impl<'a> Board for RingBearer<'a> as RingBearerBoard {
         }
     }
 
-    fn disarm(&mut self, bearer: usize) {
+    fn disarm(&mut self, bearer: usize)
+        ensures after { λ _. ⌜ ring-bearer (now (self .exit)) ∷ [] ≡ changed (ring-bearer (now (self .entry)) ∷ []) bearer after-disarm ⌝ }
+        ensures same { λ _. ⌜ now (self .exit) .ring .slots ≡ now (self .entry) .ring .slots ⌝ }
+    {
         if bearer == 0 {
             self.armed = false;
             self.signal = false;
