@@ -1,5 +1,5 @@
 -- The line of packets that lie in numbered slots: each used slot tells its packet's place, 0 for the oldest.
--- Two slots of one place, or a place of the line that no slot has, never come about; but a mailbox carries no proof of that, so they read as something too.
+-- Two slots of one place, or a place of the line that no slot has, are not meant to be; but a mailbox carries no proof that it has none, so they read as something too.
 use mathlib.Core.Path.{_≡_}
 use mathlib.Core.Bool.{Bool, true, false, cond, _||_}
 use mathlib.Core.List.{List, [], _∷_, map}

@@ -54,7 +54,7 @@ impl Slot {
 }
 
 /// The first slot that holds no packet of a line of `len`: one that is free, or whose place is past the line's end or
-/// an earlier slot's too. No mailbox comes to have the last two, but none carries a proof of that.
+/// an earlier slot's too. The last two are not meant to be, but a mailbox carries no proof that it has none.
 fn spare_slot(slots: &[Slot; SLOTS], len: usize) -> usize
     requires { ⌜ len < 16 ⌝ }
     ensures inside { λ r. ⌜ r < 16 ⌝ }
