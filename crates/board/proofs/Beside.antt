@@ -1,8 +1,8 @@
 -- A board in a pair: where each of its bearers stands among the pair's.
 use mathlib.Core.Path.{_≡_, refl, sym, ap, _∙_, subst}
 use mathlib.Core.Logic.{⊎-elim}
-use mathlib.Core.List.{List, [], _∷_, _++_}
-use Prim.Native.Nat.{ℕ, _+_, _-_, _<_, _≤_, min, zero, suc}
+use mathlib.Core.List.{List, _++_}
+use Prim.Native.Nat.{ℕ, _+_, _-_, _<_, _≤_, min}
 use native.Mathlib.Omega.{arith}
 use lib.ListN.{length, take, set}
 use Rattle.std.proofs.shelf.Lists.{length-take, length-append, getD-take, getD-append-left, getD-append-right, set-append-left, set-append-right, getD-past, set-past}

@@ -1,10 +1,10 @@
 -- One change of a bearer after another.
-use mathlib.Core.Path.{_≡_, refl, sym, ap, _∙_}
+use mathlib.Core.Path.{_≡_, sym, ap, _∙_}
 use mathlib.Core.Logic.{⊎-elim}
 use mathlib.Core.List.{List}
 use Prim.Native.Nat.{ℕ, _<_, _≤_}
 use lib.ListN.{length, set}
-use Rattle.std.proofs.shelf.Lists.{length-set, getD-set-same, getD-past, set-set, set-past}
+use Rattle.std.proofs.shelf.Lists.{getD-set-same, set-set, set-past}
 use Rattle.std.proofs.shelf.Tests.{cases-lt}
 use Rattle.board.specs.Bearers.{Bearer, absent, bearer-of, changed}
 

@@ -1,23 +1,24 @@
 -- How the line of packets in numbered slots changes.
 use mathlib.Core.Path.{_≡_, refl, sym, ap, _∙_}
 use mathlib.Core.Bool.{Bool, true, false, cond, _||_}
-use mathlib.Core.Logic.{⊎-elim}
 use mathlib.Core.List.{List, [], _∷_, _++_, map}
 use Prim.Native.Nat.{ℕ, _+_, _-_, _<_, _≤_, zero, suc}
 use native.Mathlib.Omega.{arith}
 use lib.Dec.{eqb, eqb·zero-suc, eqb·suc-suc}
 use lib.ListN.{length, getD, set, take, drop}
 use Rattle.std.specs.Finite.{nth}
-use Rattle.std.specs.Iters.{counting}
 use Rattle.std.specs.declared.option.Option.the-variants.{Some, None}
 use Rattle.std.proofs.shelf.Lists.{same-lists, nil-from-length, length-drop, getD-drop, take-append-drop, take-set, drop-set, drop-more}
 use Rattle.std.proofs.shelf.Counted.{length-map-counting, getD-map-counting, map-counting-more}
-use Rattle.std.proofs.shelf.Maps.{nth-getD, nth-past}
-use Rattle.std.proofs.shelf.Tests.{cases-bool, cond-true, cond-false, eq-eqb, ne-eqb}
+use Rattle.std.proofs.shelf.Maps.{nth-getD}
+use Rattle.std.proofs.shelf.Tests.{cond-true, cond-false, eq-eqb, ne-eqb}
 use Rattle.board.specs.Line.{blank, packet-in, has-place, any-place, packet-at, line, advanced, Spare}
 use Rattle.board.specs.declared.packets.Packet.{Packet}
 use Rattle.board.specs.declared.mailbox_slots.Slot.{Slot}
 use Rattle.board.specs.declared.mailbox_slots.Slot.the-variants.{Free, Used}
+
+pub some-is-none : {X : Type 0} (x : X) → Some x ≡ None → ⊥
+some-is-none x e = let z : _≡_ {A = ℕ} 0 1 = cc in omega arith
 
 pub length-line : (s : List Slot) (n : ℕ) → length (line s n) ≡ n
 unfolding line
@@ -79,13 +80,13 @@ module _ (s : List Slot) (i : ℕ) (inside : i < length s) where
       where
         go : (b : Bool) (q r : Packet) → Some p ≡ cond b (Some q) None → p ≡ cond b q r
         go true q r f = cc
-        go false q r f = let z : _≡_ {A = ℕ} 0 1 = cc in absurd (omega arith)
+        go false q r f = absurd (some-is-none p f)
 
     pub oldest-later : None ≡ cond (has-place 0 (getD s i Free)) (Some (packet-in (getD s i Free))) None → packet-at (drop (i + 1) s) 0 ≡ packet-at s 0
     oldest-later e = go (has-place 0 (getD s i Free)) (packet-in (getD s i Free)) (packet-at (drop (i + 1) s) 0) e ∙ sym (packet-here 0) ∙ inv
       where
         go : (b : Bool) (q r : Packet) → None ≡ cond b (Some q) None → r ≡ cond b q r
-        go true q r f = let z : _≡_ {A = ℕ} 0 1 = cc in absurd (omega arith)
+        go true q r f = absurd (some-is-none q (sym f))
         go false q r f = refl
 
 -- a packet comes

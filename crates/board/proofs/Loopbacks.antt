@@ -5,7 +5,6 @@ use mathlib.Core.Logic.{⊎-elim}
 use mathlib.Core.List.{List}
 use Prim.Native.Nat.{ℕ, _<_, _≤_}
 use lib.ListN.{length, set}
-use Rattle.std.specs.Finite.{nth}
 use Rattle.std.proofs.shelf.Lists.{getD-past}
 use Rattle.std.proofs.shelf.Tests.{both-ways, cases-lt, cond-both, cond-true, or-right}
 use Rattle.board.specs.declared.packets.Packet.{Packet}

@@ -3,17 +3,17 @@ use mathlib.Core.Path.{_≡_, refl, sym, ap, _∙_}
 use mathlib.Core.Bool.{Bool, true, false, cond, _||_}
 use mathlib.Core.Logic.{⊎-elim}
 use mathlib.Core.List.{List, [], _∷_, _++_}
-use Prim.Native.Nat.{ℕ, _+_, _-_, _<_, _≤_, zero, suc}
+use Prim.Native.Nat.{ℕ, _+_, _-_, _<_, _≤_}
 use native.Mathlib.Omega.{arith}
 use lib.Dec.{eqb, ltb}
-use lib.ListN.{length, getD, set, take, drop, replicate}
+use lib.ListN.{length, getD, set, take}
 use Rattle.std.specs.shelf.Lists.{countBy}
 use Rattle.std.proofs.shelf.Lists.{take-more, length-set, getD-set-same, getD-set-other}
 use Rattle.std.proofs.shelf.Sums.{sumBy-set, countBy-le-length}
 use Rattle.std.proofs.shelf.Tests.{cases-eq, eq-eqb, ne-eqb, ltb-true, or-right, or-from}
 use Rattle.board.specs.Line.{has-place, place-below, any-place}
 use Rattle.std.specs.declared.option.Option.the-variants.{Some, None}
-use Rattle.board.specs.declared.packets.Packet.{Packet}
+use Rattle.board.proofs.Lines.{some-is-none}
 use Rattle.board.specs.declared.mailbox_slots.Slot.{Slot}
 use Rattle.board.specs.declared.mailbox_slots.Slot.the-variants.{Free, Used}
 
@@ -45,12 +45,12 @@ module _ (s : List Slot) (n : ℕ) where
 
   -- a slot whose place is in the line has that place and no other
   has-from : (x : Slot) (m : ℕ) → place-below n x ≡ Some m → (m < n) × ((k : ℕ) → has-place k x ≡ eqb m k)
-  has-from Free m e = let z : _≡_ {A = ℕ} 0 1 = cc in absurd (omega arith)
+  has-from Free m e = absurd (some-is-none m (sym e))
   has-from (Used p i) m e = go (ltb i n) refl e
     where
       go : (b : Bool) → ltb i n ≡ b → cond b (Some i) None ≡ Some m → (m < n) × ((k : ℕ) → eqb i k ≡ eqb m k)
       go true t f = let j : i ≡ m = cc in (omega (arith, ltb-true i n t), λ k. ap (λ a. eqb a k) j)
-      go false t f = let z : _≡_ {A = ℕ} 0 1 = cc in absurd (omega arith)
+      go false t f = absurd (some-is-none m (sym f))
 
   module _ (short : n < 16) where
     pub seen-more : (i m : ℕ) (seen : List Bool) → i < length s → Seen i seen → place-below n (getD s i Free) ≡ Some m → getD seen m false ≡ false → Seen (i + 1) (set seen m true)

@@ -1,4 +1,3 @@
-use mathlib.Core.Path.{sym, _∙_}
 use native.Mathlib.Omega.{arith}
 use Rattle.board.proofs.Beside.{length-both, lawful-both}
 use Rattle.board.proofs.pairs.PairBoard.size.Needs as need
