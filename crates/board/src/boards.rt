@@ -64,9 +64,9 @@ pub struct Looped {
 
 /// Passes a packet through a bearer, as a self-test does. The bearer is left disarmed.
 pub fn loopback<B: Board>(board: &mut B, bearer: usize, packet: Packet) -> Looped
-    ensures raised { result.raised ≡ has_room (bearer_of (bearers board.old) bearer) }
-    ensures came { result.came ≡ slice_get (after_offer packet (bearer_of (bearers board.old) bearer)).waiting 0 }
-    ensures after { bearers board.new ≡ changed (bearers board.old) bearer (λ x. after_disarm (after_take (after_offer packet x))) }
+    ensures raised { result.raised ≡ has_room (bearer_of (B.bearers board.old) bearer) }
+    ensures came { result.came ≡ slice_get (after_offer packet (bearer_of (B.bearers board.old) bearer)).waiting 0 }
+    ensures after { B.bearers board.new ≡ changed (B.bearers board.old) bearer (λ x. after_disarm (after_take (after_offer packet x))) }
 {
     board.arm(bearer);
     let raised = board.offer(bearer, packet) && board.signal(bearer);

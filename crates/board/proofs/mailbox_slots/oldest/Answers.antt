@@ -9,7 +9,7 @@ returns-in-Some c =
     record { value = oldest_here c.args.slots.now c.loop-slot.slot-index (omega arith) c.loop-slot.invariant _ c.in-Some.ensures.value }
 
 pub loop-slot-preserved : goal.loop-slot-preserved
-loop-slot-preserved c = oldest_later c.args.slots.now c.loop-slot.slot-index (omega arith) c.loop-slot.invariant c.in-default.ensures.value
+loop-slot-preserved c = oldest_later c.args.slots.now c.loop-slot.slot-index (omega arith) c.loop-slot.invariant c.in_default.ensures.value
 
 pub returns : goal.returns
 returns c =

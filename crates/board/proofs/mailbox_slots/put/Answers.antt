@@ -6,6 +6,6 @@ pub returns : goal.returns
 returns c =
     record {
       after =
-          line_put c.args.slots.now c.spare-slot-at.result c.args.len c.args.packet
-          (omega (arith, c.spare-slot-at.ensures.inside)) c.spare-slot-at.ensures.spare;
+          line_put c.args.slots.now c.spare_slot-at.result c.args.len c.args.packet
+          (omega (arith, c.spare_slot-at.ensures.inside)) c.spare_slot-at.ensures.spare;
     }

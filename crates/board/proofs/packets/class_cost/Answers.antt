@@ -8,7 +8,7 @@ pub returns : goal.returns
 returns c =
     let k = length_class c.args.length in
     let j = c.min.result in
-    let e : j ≡ min k 11 = c.min.ensures ∙ ap (λ m. min (m / 32) 11) c.saturating-sub-class.ensures in
+    let e : j ≡ min k 11 = c.min.ensures ∙ ap (λ m. min (m / 32) 11) c.saturating_sub-class.ensures in
     let up : IsNonDecreasing class_costs = rising class_costs refl in
     record {
       value = ap (λ m. get_or class_costs m 0) e ∙ cut_place class_costs 11 k 0 refl;

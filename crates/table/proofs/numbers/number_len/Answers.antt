@@ -3,8 +3,8 @@ use Rattle.std.proofs.lemmas.Fmt.{decimal_nonempty}
 use Rattle.table.proofs.Digits.{length_few, length_last, length_more}
 use Rattle.table.proofs.numbers.number_len.Goals as goal
 
-pub overflow-add-len : goal.overflow-add-len
-overflow-add-len c = search (rules, length_few)
+pub overflow_add-len : goal.overflow_add-len
+overflow_add-len c = search (rules, length_few)
 
 pub loop-n-preserved : goal.loop-n-preserved
 loop-n-preserved c =

@@ -3,8 +3,8 @@ use Rattle.std.proofs.lemmas.List.{length-set}
 use Rattle.table.proofs.Digits.{length_more, written_last, written_more}
 use Rattle.table.proofs.numbers.write_number.Goals as goal
 
-pub overflow-sub-place-in-loop-rest : goal.overflow-sub-place-in-loop-rest
-overflow-sub-place-in-loop-rest c =
+pub overflow_sub-place-in-loop-rest : goal.overflow_sub-place-in-loop-rest
+overflow_sub-place-in-loop-rest c =
     let more = length_more c.loop-rest.rest (omega arith) (omega arith) in
     omega arith
 

@@ -12,8 +12,8 @@ write-place-requires c = record { room = omega (arith, length-row_first c.args.f
 pub loop-field-init : goal.loop-field-init
 loop-field-init c = (omega (arith, length-row_first c.args.fields.now (omega (arith, ltb-false))), refl)
 
-pub write-bytes-place-requires : goal.write-bytes-place-requires
-write-bytes-place-requires c =
+pub write_bytes-place-requires : goal.write_bytes-place-requires
+write_bytes-place-requires c =
     let more = length-further_more (others c.args.fields.now) c.loop-field.field-index (omega arith) in
     record { room = omega arith }
 
@@ -30,13 +30,13 @@ loop-field-preserved c =
     let tail = further (drop (i + 1) fs) in (
       omega arith,
       written_next _ _ tail c.write-place-in-loop-field.ensures.after c.write-place-in-loop-field.ensures.value (omega arith)
-          ∙ written_next _ (44 ∷ []) (field (at fs i) ++ tail) c.write-bytes-place.ensures.after c.write-bytes-place.ensures.value (omega arith)
+          ∙ written_next _ (44 ∷ []) (field (at fs i) ++ tail) c.write_bytes-place.ensures.after c.write_bytes-place.ensures.value (omega arith)
           ∙ ap (written c.loop-field.memory c.loop-field.place) (sym (further_more fs i (omega arith)))
           ∙ c.loop-field.invariant.1,
     )
 
-pub end-row-requires-2 : goal.end-row-requires-2
-end-row-requires-2 c =
+pub end_row-requires-2 : goal.end_row-requires-2
+end_row-requires-2 c =
     record { room = omega (arith, ap length (further_all (others c.args.fields.now) c.loop-field.field-index (omega arith))) }
 
 pub returns : goal.returns
@@ -47,7 +47,7 @@ returns c =
     record {
       value = omega (arith, ap length end);
       after =
-          c.end-row-2.ensures.after
+          c.end_row-2.ensures.after
           ∙ ap (written c.loop-field.memory c.loop-field.place) (sym end)
           ∙ c.loop-field.invariant.1
           ∙ written_next _ _ (further (others fs)) c.write-place.ensures.after c.write-place.ensures.value (omega arith)
