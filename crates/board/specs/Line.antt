@@ -1,6 +1,6 @@
 -- The line of packets that lie in numbered slots: each used slot tells its packet's place, 0 for the oldest.
 -- Two slots of one place, or a place of the line that no slot has, are not meant to be; but a mailbox carries no proof that it has none, so they read as something too.
-use Rattle.std.specs.Prelude.{◌≡◌, ℕ, zero, suc, ◌<◌, Bool, true, false, cond, ◌||◌, List, [], ◌∷◌, map, take, Some, None, Option, ◌==◌, nat_lt, slice_index_or}
+use Rattle.std.specs.Prelude.{◌≡◌, ℕ, zero, suc, ◌<◌, Bool, false, cond, ◌||◌, List, [], ◌∷◌, map, take, Some, None, Option, ◌==◌, nat_lt, slice_index_or}
 use Rattle.std.specs.List.{range_with_len}
 use Rattle.board.specs.declared.packets.Packet.{Packet}
 use Rattle.board.specs.declared.mailbox_slots.Slot.{Slot}

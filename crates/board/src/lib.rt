@@ -1,6 +1,7 @@
 //! Bearers of packets, and boards of them: what a receiver takes its packets from.
 //!
 //! A board is whatever keeps the contract of [`Board`]. Code above it is proved from that contract alone.
+#![tactic(auto)]
 
 mod boards;
 mod mailbox_slots;

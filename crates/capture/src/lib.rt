@@ -1,4 +1,6 @@
 //! Reading captures: what a capture file says of the packets that a board received.
+#![tactic(auto)]
+
 mod entry;
 mod orders;
 mod packets;

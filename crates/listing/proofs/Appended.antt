@@ -1,5 +1,5 @@
 -- A text that is made longer, and then written behind its old end.
-use Rattle.std.proofs.Common.{◌≡◌, ℕ, ◌+◌, ◌-◌, ◌≤◌, List, ◌++◌, length, take, drop, replicate, sym, refl, ap, ◌∙◌, append-nil, arith}
+use Rattle.std.proofs.Common.{◌≡◌, ℕ, ◌+◌, ◌-◌, ◌≤◌, List, ◌++◌, length, take, drop, replicate, refl, ap, ◌∙◌, append-nil, arith}
 use Rattle.std.proofs.lemmas.List.{take_all, take_at, drop_all, length-append, length-replicate}
 use Rattle.table.specs.Memory.{left, written}
 use Rattle.table.proofs.Calls.{answer_fits, answer_ok}

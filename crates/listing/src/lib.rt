@@ -1,4 +1,6 @@
 //! What is printed of a capture: the table of its packets as the replay will see them, or the refusal.
+#![tactic(auto)]
+
 ghost use Rattle.std.specs.Prelude.{◌≡◌, IfOk};
 ghost use Rattle.capture.specs.Savefile.{meaning};
 ghost use Rattle.listing.specs.Listing.{printed, counted};

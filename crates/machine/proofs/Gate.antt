@@ -1,15 +1,14 @@
 -- The gate, set at the end of a call, leaves all tidy, whatever it finds.
-use Rattle.std.proofs.Common.{◌≡◌, ℕ, zero, suc, ◌+◌, ◌<◌, ◌≤◌, Bool, true, false, cond, ◌&&◌, eqb, List, [], ◌∷◌, ◌++◌, map, length, Option, sym, refl, ap, ◌∙◌, subst, ⊎_elim, arith}
+use Rattle.std.proofs.Common.{◌≡◌, ℕ, zero, suc, ◌+◌, ◌<◌, ◌≤◌, Bool, true, false, cond, List, [], ◌∷◌, ◌++◌, length, Option, sym, refl, ap, ◌∙◌, subst, ⊎_elim, arith}
 use Rattle.std.proofs.lemmas.Bool.{cases_eq, and_right}
 use Rattle.std.proofs.lemmas.List.{length-set}
 use Rattle.board.specs.Bearers.{Bearer, bearer_of, changed, any_waiting, after_arm, after_disarm}
 use Rattle.board.proofs.Changes.{changed_twice}
 use Rattle.machine.specs.declared.calls.RawSettings.{RawSettings}
-use Rattle.machine.specs.State.{Grant, Core, waits, busy, is_open, with_bearers, with_listed}
-use Rattle.machine.specs.Laws.{times}
-use Rattle.machine.specs.Moves.{arm, disarm, join, open_bearer, on_each, open_gate, shut_gate, set_gate}
+use Rattle.machine.specs.State.{Grant, Core, waits, busy, is_open, with_bearers}
+use Rattle.machine.specs.Moves.{arm, join, open_bearer, on_each, open_gate, shut_gate, set_gate}
 use Rattle.machine.proofs.Basics.{cases, untrue, at_changed, on_changed, at_mapped, hit, miss, one_most, none_left, past_disarmed}
-use Rattle.machine.proofs.Loads.{turns, load, Tidy, TidyCore, times-append, busy_turns, free_turns}
+use Rattle.machine.proofs.Loads.{turns, load, TidyCore, times-append, busy_turns, free_turns}
 
 -- moves on each bearer in turn: what every move keeps; and what each move reaches at its own bearer and every move keeps
 pub on_each_keeps : (P : Core → Type 0) (move : ℕ → Core → Core) → ((b : ℕ) (x : Core) → P x → P (move b x)) → (i n : ℕ) (x : Core) → P x → P (on_each move i n x)

@@ -1,9 +1,9 @@
 -- What a call comes to: it is refused, it configures, or it is one of the moves below. Every law is shown by these cases.
-use Rattle.std.proofs.Common.{◌≡◌, ℕ, ◌+◌, ◌-◌, ◌<◌, ◌≤◌, Bool, true, false, cond, ◌&&◌, ◌||◌, eqb, ltb, leb, List, [], ◌∷◌, ◌++◌, length, get_or, drop, Some, None, Ok, Err, Option, Result, sym, refl, ap, ◌∙◌, subst, arith}
+use Rattle.std.proofs.Common.{◌≡◌, ℕ, ◌+◌, ◌-◌, ◌<◌, ◌≤◌, Bool, true, false, cond, ◌||◌, eqb, leb, List, [], ◌∷◌, ◌++◌, length, get_or, drop, Some, None, Ok, Err, Option, Result, sym, refl, ap, ◌∙◌, subst, arith}
 use Rattle.std.specs.List.{slice_get}
 use Rattle.std.proofs.lemmas.Bool.{ltb-true, leb-true, eqb-true, eqb-false, and_parts}
 use Rattle.board.specs.declared.packets.Packet.{Packet}
-use Rattle.board.specs.Bearers.{Bearer, bearer_of, changed, has_room, any_waiting, after_offer, after_take, after_arm, after_disarm}
+use Rattle.board.specs.Bearers.{Bearer, bearer_of, changed, has_room, any_waiting, after_offer, after_arm, after_disarm}
 use Rattle.board.specs.Costs.{cost_of_length}
 use Rattle.board.proofs.Changes.{bearer_changed, changed_twice}
 use Rattle.machine.specs.declared.answers.Answer.{Answer}
@@ -15,8 +15,8 @@ use Rattle.machine.specs.declared.calls.RawSettings.{RawSettings}
 use Rattle.machine.specs.declared.refusals.Refusal.{Refusal}
 use Rattle.machine.specs.State.{Grant, Core, State, idle, running, Batches, waits, holds, is_open, with_bearers, with_hold, with_listed, with_grant, with_queue, with_out, with_counts}
 use Rattle.machine.specs.Settings.{Check, first, settings_checks, grant_bound}
-use Rattle.machine.specs.Moves.{arm, join, disarm, charge, offer_cycles, set_gate, one_numbered, one_bearer_full, one_queue_full}
-use Rattle.machine.specs.Calls.{blank, next_packet, offered, left_with, taken_off, heard, arrive, begin, has_queue_room, queued, high_marked, paid, take_by, close, serve, work, fetch, finish, discard, tell}
+use Rattle.machine.specs.Moves.{join, charge, offer_cycles, set_gate, one_numbered, one_bearer_full, one_queue_full}
+use Rattle.machine.specs.Calls.{blank, next_packet, left_with, taken_off, heard, arrive, begin, has_queue_room, high_marked, paid, take_by, close, serve, work, fetch, finish, discard, tell}
 use Rattle.machine.specs.Machine.{unless, any_left, no_counts, fresh, waiting_checks, configure_checks, idle_call, arrive_checks, step_checks, work_checks, fetch_checks, out_checks, step_by, checked, running_call, call}
 use Rattle.machine.proofs.Basics.{cases, tested, untrue, none_some, changed_same, none_left}
 

@@ -1,12 +1,11 @@
 -- What holds of every list of calls: an invariant of the entries so far and of the receiver, kept by whatever a call comes to.
-use Rattle.std.proofs.Common.{◌≡◌, ℕ, List, [], ◌∷◌, ◌++◌, Result, sym, refl, ap, subst, append_assoc, append-nil, arith}
+use Rattle.std.proofs.Common.{◌≡◌, ℕ, List, [], ◌∷◌, ◌++◌, Result, sym, refl, subst, append_assoc, append-nil, arith}
 use Rattle.machine.specs.declared.answers.Answer.{Answer}
 use Rattle.machine.specs.declared.calls.Call.{Call}
 use Rattle.machine.specs.declared.calls.RawSettings.{RawSettings}
 use Rattle.machine.specs.declared.refusals.Refusal.{Refusal}
 use Rattle.machine.specs.State.{Core, State, idle, running, Batches}
-use Rattle.machine.specs.Machine.{call}
-use Rattle.machine.specs.Trace.{Entry, entry, trace, end_of, Throughout}
+use Rattle.machine.specs.Trace.{Entry, trace, end_of, Throughout}
 use Rattle.machine.specs.Laws.{OnceRunning}
 use Rattle.machine.proofs.Moved.{Happens, happens}
 

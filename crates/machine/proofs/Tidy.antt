@@ -1,18 +1,18 @@
 -- Every call leaves all tidy. So no receiver is deaf, and none is loud between calls.
-use Rattle.std.proofs.Common.{◌≡◌, ℕ, zero, suc, ◌+◌, ◌<◌, ◌≤◌, Bool, true, false, cond, ◌&&◌, ◌||◌, eqb, ltb, leb, ◌≢◌, List, [], ◌∷◌, ◌++◌, length, drop, Some, None, Option, Result, sym, refl, ap, ◌∙◌, subst, ⊎_elim, arith}
-use Rattle.std.proofs.lemmas.Bool.{cases_lt, cases_eq, and_left, and_right, and_parts, and_from, or_parts, lt-ltb, leb-true, not-true}
+use Rattle.std.proofs.Common.{◌≡◌, ℕ, zero, suc, ◌+◌, ◌<◌, ◌≤◌, Bool, true, false, cond, ◌&&◌, ◌||◌, eqb, ltb, leb, List, [], ◌∷◌, ◌++◌, length, drop, Some, None, Option, Result, sym, refl, ap, ◌∙◌, subst, ⊎_elim, arith}
+use Rattle.std.proofs.lemmas.Bool.{cases_lt, and_left, and_right, and_parts, and_from, or_parts, lt-ltb, leb-true, not-true}
 use Rattle.std.proofs.lemmas.List.{length-set, length-map, get_or-map, get_or_past}
 use Rattle.board.specs.Bearers.{Bearer, absent, bearer_of, changed, any_waiting, after_take, after_arm, after_disarm}
 use Rattle.machine.specs.declared.answers.Answer.{Answer}
 use Rattle.machine.specs.declared.calls.Call.{Call}
 use Rattle.machine.specs.declared.calls.RawSettings.{RawSettings}
 use Rattle.machine.specs.declared.refusals.Refusal.{Refusal}
-use Rattle.machine.specs.State.{Grant, Core, State, idle, running, Batches, waits, serves, busy, is_open}
+use Rattle.machine.specs.State.{Grant, Core, State, idle, Batches, waits, serves, busy, is_open}
 use Rattle.machine.specs.Settings.{settings_checks}
 use Rattle.machine.specs.Calls.{next_packet}
 use Rattle.machine.specs.Machine.{fresh, waiting_checks}
 use Rattle.machine.specs.Laws.{times, Heard, Always, NeverDeaf, Quiet}
-use Rattle.machine.proofs.Basics.{tested, untrue, at_changed, on_changed, at_mapped, past_disarmed, hit, miss, none_left}
+use Rattle.machine.proofs.Basics.{tested, untrue, at_changed, on_changed, at_mapped, hit, miss, none_left}
 use Rattle.machine.proofs.Loads.{turns, load, Tidy, TidyCore, TidyState, times-append, free_turns}
 use Rattle.machine.proofs.Gate.{arm_armed, arm_quiet, arm_waiting, gate_tidy}
 use Rattle.machine.proofs.Moved.{behind, Passed, Move, lost, stored, signalled, begun, emptied, taken, rescheduled, completed, worked, fetched, finished, discarded, told, Happens, refused, asked_idle, configured, moved}

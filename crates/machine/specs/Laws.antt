@@ -14,7 +14,6 @@ use Rattle.machine.specs.declared.calls.RawSettings.{RawSettings}
 use Rattle.machine.specs.declared.refusals.Refusal.{Refusal}
 use Rattle.machine.specs.State.{Core, State, idle, running, Batches, waits, holds, busy, is_open}
 use Rattle.machine.specs.Settings.{grant_bound}
-use Rattle.machine.specs.Machine.{call}
 use Rattle.machine.specs.Trace.{Entry, trace, end_of, Throughout}
 use Rattle.machine.specs.Ledger.{Ledger, Columns, column, column_room, queue_room, progress_in, depths_of, ledger, counts_of}
 

@@ -2,6 +2,7 @@
 //! laws of every list of calls.
 //!
 //! The definitions stand in `specs/`. Code here is only what they speak of: the types of calls, answers and refusals.
+#![tactic(auto)]
 
 mod answers;
 mod calls;

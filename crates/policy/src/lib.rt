@@ -1,4 +1,5 @@
 //! Batch policies: how many of a bearer's waiting packets one grant may take.
+#![tactic(auto)]
 
 mod backlog;
 mod fixed;

@@ -1,4 +1,6 @@
 //! Prints, as a table, every packet of the capture on standard input, or why the capture is refused.
+#![tactic(auto)]
+
 use listing::list;
 use std::io;
 use std::io::{Read, Write};

@@ -1,5 +1,6 @@
 //! Decimal numbers and rows of RFC 4180 tables, written into memory that the caller lends.
 //! A text is written whole or not at all, so a refused call leaves the memory as it was.
+#![tactic(auto)]
 
 mod fields;
 mod memory;

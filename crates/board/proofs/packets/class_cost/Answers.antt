@@ -1,4 +1,4 @@
-use Rattle.std.proofs.Common.{◌≡◌, ◌-◌, ◌/◌, ◌≤◌, min, get_or, refl, ap, ◌∙◌, arith}
+use Rattle.std.proofs.Common.{◌≡◌, ◌/◌, min, get_or, refl, ap, ◌∙◌, arith}
 use Rattle.board.specs.Costs.{class_costs, length_class}
 use Rattle.std.specs.List.Sorted.{IsNonDecreasing}
 use Rattle.board.proofs.Tables.{rising, cut_place}

@@ -1,4 +1,4 @@
-use Rattle.std.proofs.Common.{◌≡◌, ◌-◌, length, vec_items}
+use Rattle.std.proofs.Common.{◌≡◌, vec_items}
 use Rattle.capture.specs.Meaning.{ahead}
 use Rattle.capture.specs.Savefile.{meaning, rest}
 use Rattle.capture.specs.Viewed.{reading}
