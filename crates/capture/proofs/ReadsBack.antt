@@ -1,8 +1,9 @@
 -- A sound file reads back as what was recorded.
-use Rattle.std.proofs.Common.{◌≡◌, ℕ, ◌+◌, ◌^◌, ◌<◌, ◌≤◌, false, List, [], ◌∷◌, ◌++◌, map, length, get_or, drop, Some, None, Ok, Option, Result, Vec, sym, refl, ap, ◌∙◌, subst, arith}
+use Rattle.std.proofs.Common.{◌≡◌, ℕ, ◌+◌, ◌^◌, ◌<◌, ◌≤◌, false, List, [], ◌∷◌, ◌++◌, map, length, get_or, drop, Some, None, Ok, Option, Result, Vec, All, sym, refl, ap, ◌∙◌, subst, arith}
 use Rattle.std.specs.declared.alloc.Global.{Global}
-use Rattle.std.specs.List.{flat_map, AllByRecursion as All}
+use Rattle.std.specs.List.{flat_map}
 use Rattle.std.proofs.lemmas.List.{append_assoc, length-append, length-drop, get_or-drop, drop-drop, drop_at}
+use Rattle.std.proofs.lemmas.List.Elements.{All-head, All-tail}
 use Rattle.std.proofs.lemmas.Bool.{le-leb, le-ltb, cond-true, cond-false}
 use Rattle.std.proofs.lemmas.Bool.Decides.{nat_tests}
 use Rattle.capture.specs.declared.orders.ByteOrder.{ByteOrder}
@@ -75,8 +76,12 @@ left_none r first l =
     cond-true _ _ _ (le-leb _ _ h)
 
 module _ (r : Reading) (first : ℕ) (x : Noted) (xs : List Noted) (l : Left first r (x ∷ xs)) where
+  fair_first : Fair r.shown first x
+  fair_first = All-head (Fair r.shown first) x xs l.fair
+
   stands : Stands r x (flat_map (block r.order) xs)
   stands =
+      let fair = fair_first in
       let bs = r.bytes in
       let o = r.order in
       let i = r.at in
@@ -90,8 +95,8 @@ module _ (r : Reading) (first : ℕ) (x : Noted) (xs : List Noted) (l : Left fir
       let f = fits bs (i + 16) octets ys e₁₆ (omega arith) in
       let c = word_at bs (i + 8) o (length x.others + 1) _ (omega arith) e₈ in
       record {
-        seconds = word_at bs i o _ _ l.fair.0.seconds e₀;
-        micros = word_at bs (i + 4) o _ _ l.fair.0.micros e₄;
+        seconds = word_at bs i o _ _ fair.seconds e₀;
+        micros = word_at bs (i + 4) o _ _ fair.micros e₄;
         captured = c;
         original = word_at bs (i + 12) o _ _ (omega arith) e₁₂;
         bearer = byte_at bs (i + 16) _ (i + 16) 0 e₁₆ (omega arith);
@@ -102,14 +107,15 @@ module _ (r : Reading) (first : ℕ) (x : Noted) (xs : List Noted) (l : Left fir
   left_item : item r ≡ Ok (Some (packet x))
   left_item =
       let s = stands in
-      let t : late r.first (savefile.stamp r) ≡ false = rw (s.seconds, s.micros) (in_time r.first (stamp x) first l.since l.fair.0.early) in
+      let fair = fair_first in
+      let t : late r.first (savefile.stamp r) ≡ false = rw (s.seconds, s.micros) (in_time r.first (stamp x) first l.since fair.early) in
       let p : savefile.packet r ≡ packet x = rw (s.seconds, s.micros, s.original, s.bearer) in
       grind (arith, nat_tests)
 
   left_behind : Left first (behind r) xs
   left_behind =
       let s = stands in
-      record { here = s.next; small = l.small; few = omega arith; since = rw (s.seconds, s.micros, l.since); fair = l.fair.1 }
+      record { here = s.next; small = l.small; few = omega arith; since = rw (s.seconds, s.micros, l.since); fair = All-tail (Fair r.shown first) x xs l.fair }
 
 rest_left : (xs : List Noted) (r : Reading) (first : ℕ) → Left first r xs → rest r ≡ Ok (map packet xs)
 rest_left [] r first l = items_end r.room r (left_none r first l)

@@ -1,6 +1,6 @@
 -- A savefile as a tool writes it, and what the rules ask of one.
-use Rattle.std.specs.Prelude.{◌≡◌, ℕ, ◌+◌, ◌-◌, ◌*◌, ◌/◌, ◌%◌, ◌^◌, ◌<◌, ◌≤◌, List, [], ◌∷◌, ◌++◌, map, length}
-use Rattle.std.specs.List.{flat_map, AllByRecursion as All}
+use Rattle.std.specs.Prelude.{◌≡◌, ℕ, ◌+◌, ◌-◌, ◌*◌, ◌/◌, ◌%◌, ◌^◌, ◌<◌, ◌≤◌, List, [], ◌∷◌, ◌++◌, map, length, All}
+use Rattle.std.specs.List.{flat_map}
 use Rattle.capture.specs.declared.orders.ByteOrder.{ByteOrder}
 use Rattle.capture.specs.declared.orders.ByteOrder.TheVariants.{Big, Little}
 use Rattle.capture.specs.declared.packets.Captured.{Captured}
