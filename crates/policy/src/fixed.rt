@@ -1,6 +1,6 @@
 ghost use Rattle.std.specs.Prelude.{◌≡◌, ◌≤◌};
 ghost use Rattle.policy.specs.Quotas.{cut_figure};
-ghost use Rattle.std.proofs.Common.{rules, arith};
+ghost use Rattle.std.proofs.Common.{rules};
 
 use crate::Policy;
 
@@ -30,9 +30,9 @@ impl Policy for Fixed {
 
     ghost quotas = { λ p _ _. p.figure };
 
-    ghost range = { first_of (Prim.search rules, Prim.grind (arith, Self.row.coded.inj)) };
+    ghost range = { Prim.search rules };
 
-    ghost bounds = { first_of (Prim.search rules, Prim.grind (arith, Self.row.coded.inj)) };
+    ghost bounds = { Prim.search rules };
 
     fn quota(&self, _bearer: usize, _waiting: usize) -> u32 {
         self.figure
