@@ -3,10 +3,11 @@
 
 usage: python3 tools/respell.py [ROOT]
 
-Run once, at the top of the repository (or at ROOT), after the toolchain's own porting script. A word that is one
-name takes underscores, a type or a fact is in camel case, and a dash stays only where it joins two functions' names.
-It rewrites specs/, proofs/, the ghost lines and clauses of src/, and what stands between backticks in README.md and
-docs/. Functions of src/, strings, must-fail edits, inputs and outputs are left as they are.
+Run at the top of the repository (or at ROOT), after the toolchain's own porting script. A dashed name takes
+underscores, or camel case where it is a type or a fact; the lemmas of JOINED keep a dash between two functions' names.
+It rewrites specs/, proofs/, the ghost lines and clauses of src/, and what stands between backticks in README.md,
+docs/RULES.md and docs/DECISIONS.md. Functions of src/, their strings, must-fail edits, inputs and outputs are left as
+they are.
 """
 
 import os
@@ -29,7 +30,10 @@ TABLE = {
 }
 
 # A dash stays where it joins two functions' names.
-JOINED = "length-held length-line length-turned length-written packet-append set-take set-turned times-append".split()
+JOINED = (
+    "get_or-line get_or-turned length-further_more length-held length-line length-row_first length-turned length-written "
+    "packet-append set-take set-turned times-append"
+).split()
 
 DECLARED = re.compile(r"^\s*(?:(?:abbrev|unfoldable) )?(?:pub )?(?:(?:record|data) )?([^\s:(){}=.]+)\s*(?:[({].*)?:(?!=)\s")
 DASHED = re.compile(r"^[A-Za-z]\w*(?:-\w+)+$")
@@ -87,6 +91,9 @@ def page(text, names):
 
 def main(root):
     names = declared(root)
+    if not names:
+        print("nothing to respell")
+        return
     words = set()
     for path in files(root):
         words |= set(re.findall(LETTER + "+", read(path)))

@@ -19,8 +19,7 @@ pub trait Policy {
     fn quota(&self, bearer: usize, waiting: usize) -> u32
         ensures value { result ≡ quotas self.now bearer waiting };
 
-    /// Answers `GREATEST`. No contract can name an associated constant, so each policy returns it here,
-    /// where the contract says that it is `limit`.
+    /// Answers `GREATEST`: each policy returns it here, where the contract says that it is `limit`.
     fn largest() -> u32
         ensures value { result ≡ limit };
 
