@@ -1,4 +1,4 @@
--- What holds of every list of calls, made on a receiver just put up. Each law speaks of a policy, of the bearers that the board showed then, and of a trace.
+-- Laws of every list of calls, made on a receiver just put up. Those are proved that the contract of `laws` names. Each law speaks of a policy, of the bearers that the board showed then, and of a trace.
 use Rattle.std.specs.Prelude.{◌≡◌, ℕ, ◌+◌, ◌<◌, ◌≤◌, Bool, true, false, cond, ◌≢◌, List, [], ◌∷◌, ◌++◌, map, length, Some, None, Ok, Err, Option, Result, ◌==◌, nat_lt, slice_index}
 use Rattle.std.specs.List.{slice_get}
 use Rattle.board.specs.declared.packets.Packet.{Packet}

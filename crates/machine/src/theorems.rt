@@ -1,6 +1,6 @@
 ghost use Rattle.machine.specs.Laws.{Always, NeverDeaf, Quiet};
 
-/// Carries the laws of the state machine in its contract. It does nothing.
+/// Carries in its contract the laws of the state machine that are proved. It does nothing.
 pub fn laws()
     ensures never_deaf { Always NeverDeaf }
     ensures quiet { Always Quiet }
