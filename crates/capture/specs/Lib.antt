@@ -1,6 +1,5 @@
 pub mod Meaning
 pub mod Numbers
-pub mod Viewed
 pub mod Refusals
 pub mod Savefile
 pub mod Told

@@ -1,11 +1,11 @@
-ghost use Rattle.std.specs.Prelude.{◌≡◌, ◌+◌, ◌≤◌, length};
+ghost use Rattle.std.specs.Prelude.{◌≡◌, ◌+◌, ◌≤◌, length, IfOk, IfErr};
 ghost use Rattle.capture.specs.Numbers.{word};
-ghost use Rattle.capture.specs.Savefile.{opens, header, opened, late, item, onward};
-ghost use Rattle.capture.specs.Viewed.{reading, viewed, Judged};
+ghost use Rattle.capture.specs.Savefile.{opens, header, opened, late, fault, packet, end, item, onward};
 
 use crate::orders::ByteOrder;
 use crate::packets::Captured;
 use crate::refusals::Refusal;
+use std::marker::Model;
 
 const LONGEST: usize = 65_536;
 
@@ -32,6 +32,27 @@ pub struct Reader<'a> {
     room: usize,
     /// The first packet's timestamp, once it is read.
     first: Option<u64>,
+}
+
+impl<'a> Model for Reader<'a> {
+    ghost use Rattle.std.specs.Prelude.{◌≤◌, length};
+    ghost use Rattle.capture.specs.Savefile.{Reading};
+
+    ghost Value = { Reading };
+
+    ghost view = {
+        λ r.
+        record {
+          bytes = r.bytes.now;
+          order = r.order;
+          shown = r.shown;
+          at = r.at;
+          room = r.room;
+          first = r.first;
+        }
+    };
+
+    ghost invariant = { λ r. r.at ≤ length r.bytes.now };
 }
 
 /// A record that passed every check.
@@ -68,7 +89,7 @@ fn byte_order(bytes: &[u8]) -> Option<ByteOrder>
 impl<'a> Reader<'a> {
     /// Starts to read a capture, for a board that shows so many bearers.
     pub fn open(bytes: &'a [u8], shown: usize) -> Result<Reader<'a>, Refusal>
-        ensures value { viewed result ≡ opened shown bytes.now }
+        ensures value { result ≡ opened shown bytes.now }
     {
         if bytes.len() > LONGEST {
             return Err(Refusal::TooLong);
@@ -88,10 +109,10 @@ impl<'a> Reader<'a> {
 
     /// The next packet, or none at the end of the file. A refusal leaves the reader where it is.
     pub fn next(&mut self) -> Result<Option<Captured>, Refusal>
-        ensures value { result ≡ item (reading self.old) }
-        ensures after { reading self.new ≡ onward result (reading self.old) }
+        ensures value { result ≡ item self.old }
+        ensures after { self.new ≡ onward result self.old }
     {
-        if self.at >= self.bytes.len() {
+        if self.at == self.bytes.len() {
             return Ok(None);
         }
         let record = self.check()?;
@@ -105,8 +126,8 @@ impl<'a> Reader<'a> {
 
     /// The 32-bit number so many bytes into the record's header.
     fn word(&self, into: usize) -> u32
-        requires { self.now.at + into + 4 ≤ length self.now.bytes.now }
-        ensures value { result ≡ word self.now.order self.now.bytes.now (self.now.at + into) }
+        requires { self.now.at + into + 4 ≤ length self.now.bytes }
+        ensures value { result ≡ word self.now.order self.now.bytes (self.now.at + into) }
     {
         self.order.word_at(self.bytes, self.at + into)
     }
@@ -122,8 +143,8 @@ impl<'a> Reader<'a> {
 
     /// The record at the reader's place, or the first check that it fails.
     fn check(&self) -> Result<Checked, Refusal>
-        requires { self.now.at ≤ length self.now.bytes.now }
-        ensures value { Judged (reading self.now) result }
+        ensures refused { IfErr result (λ f. fault self.now ≡ Some f) }
+        ensures passed { IfOk result (λ c. (fault self.now ≡ None) × (c.packet ≡ packet self.now) × (c.end ≡ end self.now)) }
     {
         let at = self.at;
         let left = self.bytes.len() - at;
