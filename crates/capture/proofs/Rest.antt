@@ -49,10 +49,3 @@ module _ (m : Meaning) (ps : List Captured) (r : Reading) (h : m ≡ ahead ps (r
       let k : item r ≡ Ok (Some p) = cc in
       let b : s ≡ behind r = rw n at g in
       rw b (h ∙ ap (ahead ps) (items_packet r.room r p refl k) ∙ sym (ahead_more ps p (rest (behind r))))
-
-pub room_falls : (r s : Reading) (o : Option Captured) (p : Captured) → o ≡ Some p → Ok o ≡ item r → s ≡ onward (Ok o) r → s.room < r.room
-room_falls r s o p n e g =
-    let k : item r ≡ Ok (Some p) = cc in
-    let b : s ≡ behind r = rw n at g in
-    let l = packet_needs_room r p k in
-    rw b (omega arith)

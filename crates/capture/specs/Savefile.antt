@@ -77,15 +77,7 @@ known (Some first) t = Some first
 
 -- the reading behind a record whose packet was read
 abbrev pub behind : Reading → Reading
-behind r =
-    record {
-      bytes = r.bytes;
-      order = r.order;
-      shown = r.shown;
-      at = end r;
-      room = r.room - 1;
-      first = known r.first (stamp r);
-    }
+behind r = record r { at = end r; room = r.room - 1; first = known r.first (stamp r) }
 
 -- it moves only past a packet
 abbrev pub onward : Result (Option Captured) Refusal → Reading → Reading

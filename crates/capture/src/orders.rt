@@ -9,27 +9,24 @@ pub enum ByteOrder {
 }
 
 impl ByteOrder {
-    /// The 16-bit number at `at`.
-    pub(crate) fn half_at(self, bytes: &[u8], at: usize) -> u16
-        requires { at + 2 ≤ length bytes.now }
-        ensures value { result ≡ half self bytes.now at }
+    /// The number of `N` bytes at `at`.
+    pub(crate) fn number_at<const N: usize>(self, bytes: &[u8], at: usize) -> u32
+        requires width { N ≤ 4 }
+        requires within { at + N ≤ length bytes.now }
+        ensures half { N ≡ 2 → result ≡ half self bytes.now at }
+        ensures word { N ≡ 4 → result ≡ word self bytes.now at }
     {
-        let two = [bytes[at], bytes[at + 1]];
+        let bytes = &bytes[at..at + N];
+        let mut four = [0; 4];
         match self {
-            ByteOrder::Big => u16::from_be_bytes(two),
-            ByteOrder::Little => u16::from_le_bytes(two),
-        }
-    }
-
-    /// The 32-bit number at `at`.
-    pub(crate) fn word_at(self, bytes: &[u8], at: usize) -> u32
-        requires { at + 4 ≤ length bytes.now }
-        ensures value { result ≡ word self bytes.now at }
-    {
-        let four = [bytes[at], bytes[at + 1], bytes[at + 2], bytes[at + 3]];
-        match self {
-            ByteOrder::Big => u32::from_be_bytes(four),
-            ByteOrder::Little => u32::from_le_bytes(four),
+            ByteOrder::Big => {
+                four[4 - N..].copy_from_slice(bytes);
+                u32::from_be_bytes(four)
+            }
+            ByteOrder::Little => {
+                four[..N].copy_from_slice(bytes);
+                u32::from_le_bytes(four)
+            }
         }
     }
 }

@@ -40,8 +40,7 @@ impl<'a> Model for Reader<'a> {
 
     ghost Value = { Reading };
 
-    ghost view = {
-        λ r.
+    ghost view = { λ r.
         record {
           bytes = r.bytes.now;
           order = r.order;
@@ -49,8 +48,7 @@ impl<'a> Model for Reader<'a> {
           at = r.at;
           room = r.room;
           first = r.first;
-        }
-    };
+        } };
 
     ghost invariant = { λ r. r.at ≤ length r.bytes.now };
 }
@@ -63,48 +61,37 @@ struct Checked {
     end: usize,
 }
 
-/// Whether the bytes begin with a savefile's header in this byte order.
-fn begins(bytes: &[u8], order: ByteOrder) -> bool
-    requires { 24 ≤ length bytes.now }
-    ensures value { result ≡ opens bytes.now order }
-{
-    order.word_at(bytes, 0) == MAGIC && order.half_at(bytes, 4) == 2 && order.half_at(bytes, 6) == 4
-}
-
 /// The byte order that a savefile's header tells, if the bytes begin with one.
 fn byte_order(bytes: &[u8]) -> Option<ByteOrder>
     ensures value { result ≡ header bytes.now }
 {
     if bytes.len() < HEADER {
-        None
-    } else if begins(bytes, ByteOrder::Big) {
-        Some(ByteOrder::Big)
-    } else if begins(bytes, ByteOrder::Little) {
-        Some(ByteOrder::Little)
-    } else {
-        None
+        return None;
     }
+    [ByteOrder::Big, ByteOrder::Little].into_iter().find(|order| {
+        order.number_at::<4>(bytes, 0) == MAGIC
+            && order.number_at::<2>(bytes, 4) == 2
+            && order.number_at::<2>(bytes, 6) == 4
+    })
 }
 
 impl<'a> Reader<'a> {
     /// Starts to read a capture, for a board that shows so many bearers.
-    pub fn open(bytes: &'a [u8], shown: usize) -> Result<Reader<'a>, Refusal>
+    pub fn open(bytes: &'a [u8], shown: usize) -> Result<Self, Refusal>
         ensures value { result ≡ opened shown bytes.now }
     {
         if bytes.len() > LONGEST {
             return Err(Refusal::TooLong);
         }
-        match byte_order(bytes) {
-            None => Err(Refusal::NoHeader),
-            Some(order) => Ok(Reader {
-                bytes,
-                order,
-                shown,
-                at: HEADER,
-                room: PACKETS,
-                first: None,
-            }),
-        }
+        let order = byte_order(bytes).ok_or(Refusal::NoHeader)?;
+        Ok(Reader {
+            bytes,
+            order,
+            shown,
+            at: HEADER,
+            room: PACKETS,
+            first: None,
+        })
     }
 
     /// The next packet, or none at the end of the file. A refusal leaves the reader where it is.
@@ -118,9 +105,7 @@ impl<'a> Reader<'a> {
         let record = self.check()?;
         self.at = record.end;
         self.room -= 1;
-        if self.first.is_none() {
-            self.first = Some(record.packet.microseconds);
-        }
+        self.first.get_or_insert(record.packet.microseconds);
         Ok(Some(record.packet))
     }
 
@@ -129,16 +114,14 @@ impl<'a> Reader<'a> {
         requires { self.now.at + into + 4 ≤ length self.now.bytes }
         ensures value { result ≡ word self.now.order self.now.bytes (self.now.at + into) }
     {
-        self.order.word_at(self.bytes, self.at + into)
+        self.order.number_at::<4>(self.bytes, self.at + into)
     }
 
     fn is_late(&self, microseconds: u64) -> bool
         ensures value { result ≡ late self.now.first microseconds }
     {
-        match self.first {
-            None => false,
-            Some(first) => microseconds >= first && microseconds - first >= SECOND,
-        }
+        self.first
+            .is_some_and(|first| microseconds.saturating_sub(first) >= SECOND)
     }
 
     /// The record at the reader's place, or the first check that it fails.
@@ -170,7 +153,7 @@ impl<'a> Reader<'a> {
             return Err(Refusal::TooLate(at));
         }
         let length = self.word(12).saturating_sub(1);
-        if length < 1 || length > 384 {
+        if !(1..=384).contains(&length) {
             return Err(Refusal::BadLength(at));
         }
         let packet = Captured {

@@ -4,6 +4,7 @@ use crate::orders::ByteOrder;
 use crate::packets::Captured;
 use crate::refusals::ReadError;
 use std::alloc::{AllocError, Global};
+use std::iter;
 use std::test::Fail;
 
 /// A record to write: bearer (in every octet of its data), seconds, microseconds, captured and original length.
@@ -11,136 +12,129 @@ type Line = (u8, u32, u32, usize, u32);
 
 const FIRST: Line = (0, 7, 900_000, 1, 21);
 
-#[derive(Clone, Copy, PartialEq, Eq, Debug)]
-enum Told {
-    Packets(usize),
-    Refused(u8, usize),
-    Memory,
-}
-
-fn answer(heap: Global, bytes: &[u8], shown: usize) -> Told {
-    match read(heap, bytes, shown) {
-        Ok(packets) => Told::Packets(packets.len()),
-        Err(ReadError::Refused(refusal)) => Told::Refused(refusal.number(), refusal.place()),
-        Err(ReadError::Memory) => Told::Memory,
+/// How many packets a capture holds, or the number and the place of its refusal.
+fn answer(
+    alloc: Global,
+    bytes: &[u8],
+    shown: usize,
+) -> Result<Result<usize, (u8, usize)>, ReadError> {
+    match read(alloc, bytes, shown) {
+        Ok(packets) => Ok(Ok(packets.len())),
+        Err(ReadError::Refused(refusal)) => Ok(Err((refusal.number(), refusal.place()))),
+        Err(ReadError::Memory) => Err(ReadError::Memory),
     }
 }
 
-fn put_word(file: &mut Vec<u8>, order: ByteOrder, n: u32) -> Result<(), AllocError> {
-    match order {
-        ByteOrder::Big => file.extend_from_slice(&n.to_be_bytes()),
-        ByteOrder::Little => file.extend_from_slice(&n.to_le_bytes()),
+/// Appends a number's bytes, which come with the highest first.
+fn put_number<const N: usize>(
+    file: &mut Vec<u8>,
+    order: ByteOrder,
+    mut bytes: [u8; N],
+) -> Result<(), AllocError> {
+    if order == ByteOrder::Little {
+        bytes.reverse();
     }
+    file.extend_from_slice(&bytes)
 }
 
-fn put_half(file: &mut Vec<u8>, order: ByteOrder, n: u16) -> Result<(), AllocError> {
-    match order {
-        ByteOrder::Big => file.extend_from_slice(&n.to_be_bytes()),
-        ByteOrder::Little => file.extend_from_slice(&n.to_le_bytes()),
-    }
-}
-
-fn header(heap: Global, order: ByteOrder) -> Result<Vec<u8>, AllocError> {
-    let mut file = Vec::new(heap);
-    put_word(&mut file, order, 0xA1B2_C3D4)?;
-    put_half(&mut file, order, 2)?;
-    put_half(&mut file, order, 4)?;
+fn header(alloc: Global, order: ByteOrder) -> Result<Vec<u8>, AllocError> {
+    let mut file = Vec::new(alloc);
+    put_number(&mut file, order, 0xA1B2_C3D4_u32.to_be_bytes())?;
+    put_number(&mut file, order, 2_u16.to_be_bytes())?;
+    put_number(&mut file, order, 4_u16.to_be_bytes())?;
     file.extend_from_slice(&[0; 16])?;
     Ok(file)
 }
 
-fn put(file: &mut Vec<u8>, order: ByteOrder, line: Line) -> Result<(), AllocError> {
+fn put_record(file: &mut Vec<u8>, order: ByteOrder, line: Line) -> Result<(), AllocError> {
     let (bearer, seconds, micros, captured, original) = line;
-    put_word(file, order, seconds)?;
-    put_word(file, order, micros)?;
-    put_word(file, order, u32::try_from(captured).unwrap_or(u32::MAX))?;
-    put_word(file, order, original)?;
-    for _ in 0..captured {
-        file.extend_from_slice(&[bearer])?;
+    let length = u32::try_from(captured).unwrap_or(u32::MAX);
+    for number in [seconds, micros, length, original] {
+        put_number(file, order, number.to_be_bytes())?;
     }
-    Ok(())
+    file.extend(iter::repeat_n(bearer, captured))
 }
 
 #[test]
 fn file_sizes(rt: HostRuntime) -> Result<(), Fail> {
-    let heap = rt.alloc();
-    let mut file = header(heap, ByteOrder::Little)?;
-    assert_eq!(rt; answer(heap, &file, 3), Told::Packets(0));
+    let alloc = rt.alloc();
+    let mut file = header(alloc, ByteOrder::Little)?;
+    assert_eq!(rt; answer(alloc, &file, 3)?, Ok(0));
     file.truncate(23);
-    assert_eq!(rt; answer(heap, &file, 3), Told::Refused(10, 0));
-    let mut file = header(heap, ByteOrder::Little)?;
-    put(&mut file, ByteOrder::Little, (0, 7, 900_000, 65_496, 21))?;
+    assert_eq!(rt; answer(alloc, &file, 3)?, Err((10, 0)));
+    let mut file = header(alloc, ByteOrder::Little)?;
+    put_record(&mut file, ByteOrder::Little, (0, 7, 900_000, 65_496, 21))?;
     assert_eq!(rt; file.len(), 65_536);
-    assert_eq!(rt; answer(heap, &file, 3), Told::Packets(1));
+    assert_eq!(rt; answer(alloc, &file, 3)?, Ok(1));
     file.extend_from_slice(&[0])?;
-    assert_eq!(rt; answer(heap, &file, 3), Told::Refused(9, 0));
+    assert_eq!(rt; answer(alloc, &file, 3)?, Err((9, 0)));
     Ok(())
 }
 
 /// A second record after FIRST, cut by so many bytes at its end.
 #[test]
 fn second_records(rt: HostRuntime) -> Result<(), Fail> {
-    let heap = rt.alloc();
+    let alloc = rt.alloc();
     let cases = [
-        (FIRST, 0, Told::Packets(2)),
-        (FIRST, 1, Told::Refused(11, 41)),
-        (FIRST, 2, Told::Refused(11, 41)),
-        (FIRST, 16, Told::Refused(11, 41)),
-        (FIRST, 17, Told::Packets(1)),
-        ((0, 7, 900_000, 0, 21), 0, Told::Refused(12, 41)),
-        ((2, 7, 900_000, 1, 21), 0, Told::Packets(2)),
-        ((3, 7, 900_000, 1, 21), 0, Told::Refused(13, 41)),
-        ((3, 9, 0, 1, 0), 0, Told::Refused(13, 41)),
-        ((0, 8, 899_999, 1, 21), 0, Told::Packets(2)),
-        ((0, 8, 900_000, 1, 21), 0, Told::Refused(15, 41)),
-        ((0, 8, 900_000, 1, 0), 0, Told::Refused(15, 41)),
-        ((0, 0, 0, 1, 21), 0, Told::Packets(2)),
-        ((0, 7, 900_000, 1, 0), 0, Told::Refused(16, 41)),
-        ((0, 7, 900_000, 1, 1), 0, Told::Refused(16, 41)),
-        ((0, 7, 900_000, 1, 2), 0, Told::Packets(2)),
-        ((0, 7, 900_000, 1, 385), 0, Told::Packets(2)),
-        ((0, 7, 900_000, 1, 386), 0, Told::Refused(16, 41)),
+        (FIRST, 0, Ok(2)),
+        (FIRST, 1, Err((11, 41))),
+        (FIRST, 2, Err((11, 41))),
+        (FIRST, 16, Err((11, 41))),
+        (FIRST, 17, Ok(1)),
+        ((0, 7, 900_000, 0, 21), 0, Err((12, 41))),
+        ((2, 7, 900_000, 1, 21), 0, Ok(2)),
+        ((3, 7, 900_000, 1, 21), 0, Err((13, 41))),
+        ((3, 9, 0, 1, 0), 0, Err((13, 41))),
+        ((0, 8, 899_999, 1, 21), 0, Ok(2)),
+        ((0, 8, 900_000, 1, 21), 0, Err((15, 41))),
+        ((0, 8, 900_000, 1, 0), 0, Err((15, 41))),
+        ((0, 0, 0, 1, 21), 0, Ok(2)),
+        ((0, 7, 900_000, 1, 0), 0, Err((16, 41))),
+        ((0, 7, 900_000, 1, 1), 0, Err((16, 41))),
+        ((0, 7, 900_000, 1, 2), 0, Ok(2)),
+        ((0, 7, 900_000, 1, 385), 0, Ok(2)),
+        ((0, 7, 900_000, 1, 386), 0, Err((16, 41))),
     ];
     for (line, cut, expected) in cases {
-        let mut file = header(heap, ByteOrder::Big)?;
-        put(&mut file, ByteOrder::Big, FIRST)?;
-        put(&mut file, ByteOrder::Big, line)?;
+        let mut file = header(alloc, ByteOrder::Big)?;
+        put_record(&mut file, ByteOrder::Big, FIRST)?;
+        put_record(&mut file, ByteOrder::Big, line)?;
         let len = file.len();
         file.truncate(len.saturating_sub(cut));
-        assert_eq!(rt; answer(heap, &file, 3), expected);
+        assert_eq!(rt; answer(alloc, &file, 3)?, expected);
     }
     Ok(())
 }
 
 #[test]
 fn packet_count(rt: HostRuntime) -> Result<(), Fail> {
-    let heap = rt.alloc();
-    let mut file = header(heap, ByteOrder::Little)?;
+    let alloc = rt.alloc();
+    let mut file = header(alloc, ByteOrder::Little)?;
     for _ in 0..1_024 {
-        put(&mut file, ByteOrder::Little, FIRST)?;
+        put_record(&mut file, ByteOrder::Little, FIRST)?;
     }
-    assert_eq!(rt; answer(heap, &file, 1), Told::Packets(1_024));
+    assert_eq!(rt; answer(alloc, &file, 1)?, Ok(1_024));
     let full = file.len();
     let cases = [
-        ((1, 9, 0, 1, 0), Told::Refused(13, 17_432)),
-        ((0, 9, 0, 1, 0), Told::Refused(14, 17_432)),
+        ((1, 9, 0, 1, 0), Err((13, 17_432))),
+        ((0, 9, 0, 1, 0), Err((14, 17_432))),
     ];
     for (line, expected) in cases {
         file.truncate(full);
-        put(&mut file, ByteOrder::Little, line)?;
-        assert_eq!(rt; answer(heap, &file, 1), expected);
+        put_record(&mut file, ByteOrder::Little, line)?;
+        assert_eq!(rt; answer(alloc, &file, 1)?, expected);
     }
     Ok(())
 }
 
 #[test]
 fn byte_orders(rt: HostRuntime) -> Result<(), Fail> {
-    let heap = rt.alloc();
+    let alloc = rt.alloc();
     for order in [ByteOrder::Big, ByteOrder::Little] {
-        let mut file = header(heap, order)?;
-        put(&mut file, order, FIRST)?;
-        put(&mut file, order, (2, 7, 5, 9, 385))?;
-        let packets = read(heap, &file, 3)?;
+        let mut file = header(alloc, order)?;
+        put_record(&mut file, order, FIRST)?;
+        put_record(&mut file, order, (2, 7, 5, 9, 385))?;
+        let packets = read(alloc, &file, 3)?;
         assert!(rt; packets.len() == 2);
         assert_eq!(rt;
             packets[0],

@@ -2,7 +2,7 @@ use Rattle.std.proofs.Common.{Ok, Err, rules}
 use Rattle.std.proofs.lemmas.Result.{err_from_is_err_and}
 use Rattle.capture.specs.declared.refusals.ReadError.TheVariants.{Refused}
 use Rattle.capture.proofs.ReadsBack.{answers}
-use Rattle.capture.proofs.Rest.{rest_packet, rest_end, rest_refused, room_falls}
+use Rattle.capture.proofs.Rest.{rest_packet, rest_end, rest_refused}
 use Rattle.capture.proofs.entry.read.Goals as goal
 
 pub returns-in_err-reader : goal.returns-in_err-reader
@@ -13,11 +13,6 @@ returns-in_err-packet c =
     let p = err_from_is_err_and c.from_residual-in_err-packet.result c.from_residual-in_err-packet.ensures.1 in
     rw (p.1, p.2)
     (answers c.args.shown _ (Err (Refused _)) (rest_refused _ _ c.loop-packets.reader c.loop-packets.invariant _ c.in_err-packet.ensures.value))
-
-pub loop-packets-smaller : goal.loop-packets-smaller
-loop-packets-smaller c =
-    let e = c.in_ok-packet.ensures in
-    room_falls c.loop-packets.reader c.next.new.self _ _ c.in-Some.is e.value e.after
 
 pub loop-packets-preserved : goal.loop-packets-preserved
 loop-packets-preserved c =
