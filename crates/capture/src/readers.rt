@@ -1,6 +1,6 @@
-ghost use Rattle.std.specs.Prelude.{◌≡◌, ◌+◌, ◌≤◌, length, IfOk, IfErr};
+ghost use Rattle.std.specs.Prelude.{◌≡◌, ◌+◌, ◌≤◌, length, IfOk, OnOk, IfErr};
 ghost use Rattle.capture.specs.Numbers.{word};
-ghost use Rattle.capture.specs.Savefile.{opens, header, opened, late, fault, packet, end, item, onward};
+ghost use Rattle.capture.specs.Savefile.{header, opened, late, fault, packet, end, item, onward};
 
 use crate::orders::ByteOrder;
 use crate::packets::Captured;
@@ -26,7 +26,7 @@ pub struct Reader<'a> {
     order: ByteOrder,
     /// How many bearers the board shows.
     shown: usize,
-    /// Where the next record begins.
+    /// Where the next record begins. A refusal tells this offset, which a slice that shrinks would lose.
     at: usize,
     /// How many packets may still come.
     room: usize,
@@ -94,7 +94,8 @@ impl<'a> Reader<'a> {
         })
     }
 
-    /// The next packet, or none at the end of the file. A refusal leaves the reader where it is.
+    /// The next packet, or none at the end of the file. A refusal leaves the reader where it is,
+    /// so as an `Iterator` it would refuse the same record for ever.
     pub fn next(&mut self) -> Result<Option<Captured>, Refusal>
         ensures value { result ≡ item self.old }
         ensures after { self.new ≡ onward result self.old }
@@ -127,7 +128,9 @@ impl<'a> Reader<'a> {
     /// The record at the reader's place, or the first check that it fails.
     fn check(&self) -> Result<Checked, Refusal>
         ensures refused { IfErr result (λ f. fault self.now ≡ Some f) }
-        ensures passed { IfOk result (λ c. (fault self.now ≡ None) × (c.packet ≡ packet self.now) × (c.end ≡ end self.now)) }
+        ensures passed { OnOk result (fault self.now ≡ None) }
+        ensures packet { IfOk result (λ c. c.packet ≡ packet self.now) }
+        ensures end { IfOk result (λ c. c.end ≡ end self.now) }
     {
         let at = self.at;
         let left = self.bytes.len() - at;
