@@ -4,7 +4,7 @@ use Rattle.std.specs.declared.alloc.Global.{Global}
 use Rattle.std.specs.List.{flat_map}
 use Rattle.std.proofs.lemmas.List.{append_assoc, length-append, length-drop, get_or-drop, drop-drop, drop_at}
 use Rattle.std.proofs.lemmas.List.Elements.{All-head, All-tail}
-use Rattle.std.proofs.lemmas.Bool.{le-leb, le-ltb, cond-true, cond-false}
+use Rattle.std.proofs.Math.Seq.{drop-append_seam}
 use Rattle.std.proofs.lemmas.Bool.Decides.{nat_tests}
 use Rattle.capture.specs.declared.orders.ByteOrder.{ByteOrder}
 use Rattle.capture.specs.declared.orders.ByteOrder.TheVariants.{Big, Little}
@@ -13,7 +13,7 @@ use Rattle.capture.specs.declared.refusals.ReadError.{ReadError}
 use Rattle.capture.specs.Meaning.{Meaning, ahead}
 use Rattle.capture.specs.Numbers.{byte, word}
 use Rattle.capture.specs.Savefile as savefile
-use Rattle.capture.specs.Savefile.{Reading, end, late, known, item, behind, rest, header, begun, whole, meaning}
+use Rattle.capture.specs.Savefile.{Reading, end, late, known, item, behind, rest, header, opened, begun, whole, meaning}
 use Rattle.capture.specs.Told.{Tells}
 use Rattle.capture.specs.Writing.{Noted, File, Fair, Sound, two, four, block, written, stamp, packet, recorded, origin}
 use Rattle.capture.proofs.Rest.{items_end, items_packet}
@@ -29,16 +29,12 @@ module _ (bs : List ℕ) (j : ℕ) where
 
   -- a number reads back
   word_at : (o : ByteOrder) (n : ℕ) (ys : List ℕ) → n < 2 ^ 32 → drop j bs ≡ four o n ++ ys → word o bs j ≡ n
-  word_at Big n ys h e =
-      let b = bytes_at e in
-      omega arith
-  word_at Little n ys h e =
-      let b = bytes_at e in
-      omega arith
+  word_at Big n ys h e = omega (arith, bytes_at e)
+  word_at Little n ys h e = omega (arith, bytes_at e)
 
   -- and what stands past it
   past : (xs ys : List ℕ) (i : ℕ) → drop j bs ≡ xs ++ ys → j + length xs ≡ i → drop i bs ≡ ys
-  past xs ys i e h = rw (← h, ← drop-drop (length xs) j bs, e) (drop_at xs ys (length xs) refl)
+  past xs ys i e h = rw (← h, ← drop-drop (length xs) j bs, e) (drop-append_seam xs ys)
 
   past_word : (o : ByteOrder) (n : ℕ) (ys : List ℕ) (i : ℕ) → drop j bs ≡ four o n ++ ys → j + 4 ≡ i → drop i bs ≡ ys
   past_word Big n ys i e h = past (four Big n) ys i e h
@@ -49,8 +45,7 @@ module _ (bs : List ℕ) (j : ℕ) where
 
 -- a timestamp less than a second after the first packet's is not late
 in_time : (o : Option ℕ) (t first : ℕ) → known o t ≡ Some first → t < first + 1000000 → late o t ≡ false
-in_time None t first e h = refl
-in_time (Some f) t first e h = grind (arith, nat_tests)
+in_time o t first e h = grind (arith, nat_tests)
 
 -- xs is what is left to read, where `first` is the first packet's timestamp
 record Left (first : ℕ) (r : Reading) (xs : List Noted) : Type 0 where
@@ -73,7 +68,7 @@ record Stands (r : Reading) (x : Noted) (ys : List ℕ) : Type 0 where
 left_none : (r : Reading) (first : ℕ) → Left first r [] → item r ≡ Ok None
 left_none r first l =
     let h : length r.bytes ≤ r.at = omega (arith, length-drop r.at r.bytes, ap length l.here) in
-    cond-true _ _ _ (le-leb _ _ h)
+    grind (arith, nat_tests)
 
 module _ (r : Reading) (first : ℕ) (x : Noted) (xs : List Noted) (l : Left first r (x ∷ xs)) where
   fair_first : Fair r.shown first x
@@ -136,7 +131,8 @@ pub reads_back : (shown : ℕ) (f : File) → Sound shown f → meaning shown (w
 reads_back shown f s =
     let ys = flat_map (block f.order) f.records in
     let h = header_read f.order (f.unread ++ ys) (omega (arith, length-append f.unread ys)) in
-    ap whole (cond-false _ _ _ (le-ltb _ _ s.small) ∙ ap (begun shown (written f)) h)
+    let o : opened shown (written f) ≡ begun shown (written f) (Some f.order) = grind (arith, nat_tests) in
+    ap whole o
     ∙ rest_left f.records _ (origin f.records)
     (record { here = past_header f.order f.unread ys s.header; small = s.small; few = s.few; since = refl; fair = s.fair })
 
