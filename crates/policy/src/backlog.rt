@@ -10,7 +10,7 @@ pub struct Backlog;
 impl Policy for Backlog {
     const GREATEST: u32 = 8;
 
-    ghost limit = { 8 };
+    ghost GREATEST = { 8 };
 
     ghost quotas = { λ _ _ w. backlog_quota w };
 
@@ -21,9 +21,5 @@ impl Policy for Backlog {
     fn quota(&self, _bearer: usize, waiting: usize) -> u32 {
         // Halved first, so that the sum fits for every `waiting`.
         (1 + waiting / 2).min(Self::GREATEST as usize) as u32
-    }
-
-    fn largest() -> u32 {
-        Self::GREATEST
     }
 }

@@ -1,5 +1,6 @@
 ghost use Rattle.std.specs.Prelude.{◌≡◌, ◌≤◌};
 ghost use Rattle.policy.specs.Quotas.{cut_figure};
+ghost use Rattle.policy.specs.declared.fixed.TheConstants.{MOST};
 ghost use Rattle.std.proofs.Common.{rules};
 
 use crate::Policy;
@@ -10,7 +11,7 @@ const MOST: u32 = 16;
 #[derive(Clone, Copy)]
 pub struct Fixed {
     figure: u32,
-    ghost cut: { (1 ≤ figure) × (figure ≤ 16) },
+    ghost cut: { (1 ≤ figure) × (figure ≤ MOST) },
 }
 
 impl Fixed {
@@ -26,7 +27,7 @@ impl Fixed {
 impl Policy for Fixed {
     const GREATEST: u32 = MOST;
 
-    ghost limit = { 16 };
+    ghost GREATEST = { MOST };
 
     ghost quotas = { λ p _ _. p.figure };
 
@@ -36,9 +37,5 @@ impl Policy for Fixed {
 
     fn quota(&self, _bearer: usize, _waiting: usize) -> u32 {
         self.figure
-    }
-
-    fn largest() -> u32 {
-        Self::GREATEST
     }
 }

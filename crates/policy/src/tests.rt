@@ -7,7 +7,7 @@ fn in_bounds<P: Policy>(policy: &P, bearer: usize, waiting: usize) -> bool
     ensures value { result ≡ true }
 {
     let quota = policy.quota(bearer, waiting);
-    1 <= quota && quota <= P::largest()
+    1 <= quota && quota <= P::GREATEST
 }
 
 #[test]
@@ -42,8 +42,6 @@ fn backlog(rt: HostRuntime) {
 
 #[test]
 fn greatest(rt: HostRuntime) {
-    assert_eq!(rt; Fixed::largest(), 16);
     assert_eq!(rt; Fixed::GREATEST, 16);
-    assert_eq!(rt; Backlog::largest(), 8);
     assert_eq!(rt; Backlog::GREATEST, 8);
 }
