@@ -1,5 +1,7 @@
 -- The number and the place of each refusal.
 use Rattle.std.specs.Prelude.{ℕ}
+use Rattle.machine.specs.declared.calls.Setting.{Setting}
+use Rattle.machine.specs.declared.calls.Setting.TheVariants.{Period, Limit, Size, High, Low, Hold}
 use Rattle.machine.specs.declared.refusals.Refusal.{Refusal}
 use Rattle.machine.specs.declared.refusals.Refusal.TheVariants.{BadSetting, NoShare, NotShown, BadLength, BadWork, NotConfigured, AlreadyConfigured, PacketWaits, Retired, LimitUsed, OnHold, NoneListed, PastPeriod, NoneQueued, AllOut, NotOut}
 
@@ -21,9 +23,18 @@ number_of NoneQueued = 28
 number_of AllOut = 29
 number_of NotOut = 30
 
+-- a setting's place in the order P, N, S, H, L, T
+abbrev pub setting_place : Setting → ℕ
+setting_place Period = 1
+setting_place Limit = 2
+setting_place Size = 3
+setting_place High = 4
+setting_place Low = 5
+setting_place Hold = 6
+
 -- what is at fault, or 0
 abbrev pub place_of : Refusal → ℕ
-place_of (BadSetting setting) = setting
+place_of (BadSetting setting) = setting_place setting
 place_of NoShare = 0
 place_of (NotShown b) = b
 place_of (BadLength n) = n

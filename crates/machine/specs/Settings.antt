@@ -2,6 +2,7 @@
 use Rattle.std.specs.Prelude.{ℕ, ◌+◌, ◌*◌, max, Bool, cond, ◌&&◌, List, [], ◌∷◌, Some, None, Option, nat_le, nat_lt}
 use Rattle.board.specs.Bearers.{Bearer}
 use Rattle.machine.specs.declared.calls.RawSettings.{RawSettings}
+use Rattle.machine.specs.declared.calls.Setting.TheVariants.{Period, Limit, Size, High, Low, Hold}
 use Rattle.machine.specs.declared.refusals.Refusal.{Refusal}
 use Rattle.machine.specs.declared.refusals.Refusal.TheVariants.{BadSetting}
 use Rattle.machine.specs.State.{Batches}
@@ -21,12 +22,12 @@ first (c ∷ cs) = cond c.0 (first cs) (Some c.1)
 -- the settings in the order P, N, S, H, L, T
 abbrev pub settings_checks : RawSettings → List Check
 settings_checks s =
-    (in_range 1000 1000000000 s.period, BadSetting 1)
-    ∷ (in_range 1 s.period s.limit, BadSetting 2)
-    ∷ (in_range 1 64 s.size, BadSetting 3)
-    ∷ (in_range 1 s.size s.high, BadSetting 4)
-    ∷ (nat_lt s.low s.high, BadSetting 5)
-    ∷ (in_range 1 1000 s.hold, BadSetting 6)
+    (in_range 1000 1000000000 s.period, BadSetting Period)
+    ∷ (in_range 1 s.period s.limit, BadSetting Limit)
+    ∷ (in_range 1 64 s.size, BadSetting Size)
+    ∷ (in_range 1 s.size s.high, BadSetting High)
+    ∷ (nat_lt s.low s.high, BadSetting Low)
+    ∷ (in_range 1 1000 s.hold, BadSetting Hold)
     ∷ []
 
 abbrev pub highest_cost : List Bearer → ℕ

@@ -14,6 +14,7 @@ pub enum Answer {
 }
 
 /// A packet's number, and whether its bearer took it; otherwise it was dropped as bearer-full.
+// The packet is numbered either way, so this is no `Result`.
 #[derive(Clone, Copy, PartialEq, Eq, Debug)]
 pub struct Arrival {
     pub number: u32,
@@ -28,6 +29,7 @@ pub enum Progress {
     /// The grant found nothing to take.
     Empty,
     /// A packet was taken, and queued or dropped as queue-full.
+    // Its number is told either way, so this is no `Result`.
     Taken { number: u32, queued: bool },
     /// The grant closed, and its bearer waits for another turn.
     Rescheduled,

@@ -15,6 +15,17 @@ pub struct RawSettings {
     pub hold: u64,
 }
 
+/// One of the six settings, by its place in the order P, N, S, H, L, T.
+#[derive(Clone, Copy, PartialEq, Eq, Debug)]
+pub enum Setting {
+    Period = 1,
+    Limit,
+    Size,
+    High,
+    Low,
+    Hold,
+}
+
 /// A call of a receiver. `Finish` and `Discard` name the number of the receipt that they spend.
 #[derive(Clone, Copy, PartialEq, Eq, Debug)]
 pub enum Call {

@@ -7,9 +7,11 @@
 mod answers;
 mod calls;
 mod refusals;
+#[cfg(test)]
+mod tests;
 mod theorems;
 
 pub use answers::{Answer, Arrival, Counts, Period, Progress, Report};
-pub use calls::{Call, RawSettings};
+pub use calls::{Call, RawSettings, Setting};
 pub use refusals::Refusal;
 pub use theorems::laws;

@@ -1,11 +1,13 @@
 ghost use Rattle.std.specs.Prelude.{◌≡◌};
 ghost use Rattle.machine.specs.Refusals.{number_of, place_of};
 
+use crate::calls::Setting;
+
 /// Why a receiver refuses a call.
 #[derive(Clone, Copy, PartialEq, Eq, Debug)]
 pub enum Refusal {
-    /// A setting is outside its range: the first such, 1 to 6.
-    BadSetting(u8),
+    /// A setting is outside its range: the first such.
+    BadSetting(Setting),
     /// The bearers' limit and the grant bound together are above the period.
     NoShare,
     /// The board does not show this bearer.
@@ -40,6 +42,7 @@ impl Refusal {
     pub fn number(self) -> u8
         ensures value { result ≡ number_of self }
     {
+        // By a match: the discriminant of a variant with a payload cannot be cast.
         match self {
             Refusal::BadSetting(_) => 1,
             Refusal::NoShare => 2,
@@ -65,7 +68,7 @@ impl Refusal {
         ensures value { result ≡ place_of self }
     {
         match self {
-            Refusal::BadSetting(setting) => u64::from(setting),
+            Refusal::BadSetting(setting) => setting as u64,
             Refusal::NotShown(bearer) | Refusal::PacketWaits(bearer) => bearer as u64,
             Refusal::BadLength(length) => length as u64,
             Refusal::PastPeriod(left) => left,
