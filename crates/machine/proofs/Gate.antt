@@ -5,7 +5,7 @@ use Rattle.std.proofs.lemmas.List.{length-set}
 use Rattle.board.specs.Bearers.{Bearer, bearer_of, changed, any_waiting, after_arm, after_disarm}
 use Rattle.board.proofs.Changes.{changed_twice}
 use Rattle.machine.specs.declared.calls.RawSettings.{RawSettings}
-use Rattle.machine.specs.State.{Grant, Core, waits, busy, is_open, with_bearers}
+use Rattle.machine.specs.State.{Grant, Core, waits, busy, is_open}
 use Rattle.machine.specs.Moves.{arm, join, open_bearer, on_each, open_gate, shut_gate, set_gate}
 use Rattle.machine.proofs.Basics.{cases, untrue, at_changed, on_changed, at_mapped, hit, miss, one_most, none_left, past_disarmed}
 use Rattle.machine.proofs.Loads.{turns, load, TidyCore, times-append, busy_turns, free_turns}
@@ -78,7 +78,7 @@ module _ (n b : ℕ) (x : Core) (h : OpeningCore n x) where
     others = λ c k. at_changed (λ y. cond y.armed 1 0 + turns x.listed x.grant c ≡ load x.bearers x.listed x.grant c) x.bearers b c (after_arm false) (λ i _. absurd (k i)) (λ _. refl);
   }
 
-  listed_opened : busy x b ≡ false → Opened n b x (join b (with_bearers (changed x.bearers b (λ v. after_disarm (after_arm false v))) x))
+  listed_opened : busy x b ≡ false → Opened n b x (join b (record x { bearers = changed x.bearers b (λ v. after_disarm (after_arm false v)) }))
   listed_opened e =
       let f : Bearer → Bearer = λ v. after_disarm (after_arm false v) in
       let l : List ℕ = x.listed ++ b ∷ [] in
@@ -103,7 +103,7 @@ module _ (n b : ℕ) (x : Core) (h : OpeningCore n x) where
   step_opened : Opened n b x (open_bearer b x)
   step_opened = cases (Opened n b x) (busy x b) same_opened
       (λ e. cases (Opened n b x) (any_waiting (waits x.bearers b))
-      (λ _. subst (λ (k : List Bearer). Opened n b x (join b (with_bearers k x))) (sym (changed_twice x.bearers b (after_arm false) after_disarm)) (listed_opened e))
+      (λ _. subst (λ (k : List Bearer). Opened n b x (join b (record x { bearers = k }))) (sym (changed_twice x.bearers b (after_arm false) after_disarm)) (listed_opened e))
       (λ w. armed_opened e (none_left (waits x.bearers b) w)))
 
 -- all bearers opened, from a shut gate

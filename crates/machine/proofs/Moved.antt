@@ -13,7 +13,7 @@ use Rattle.machine.specs.declared.calls.Call.{Call}
 use Rattle.machine.specs.declared.calls.Call.TheVariants.{Configure, Arrive, Step, Work, Fetch, Finish, Discard, Tell}
 use Rattle.machine.specs.declared.calls.RawSettings.{RawSettings}
 use Rattle.machine.specs.declared.refusals.Refusal.{Refusal}
-use Rattle.machine.specs.State.{Grant, Core, State, idle, running, Batches, waits, holds, is_open, with_bearers, with_hold, with_listed, with_grant, with_queue, with_out, with_counts}
+use Rattle.machine.specs.State.{Grant, Core, State, idle, running, Batches, waits, holds, is_open}
 use Rattle.machine.specs.Settings.{Check, first, settings_checks, grant_bound}
 use Rattle.machine.specs.Moves.{join, charge, offer_cycles, set_gate, one_numbered, one_bearer_full, one_queue_full}
 use Rattle.machine.specs.Calls.{blank, next_packet, left_with, taken_off, heard, arrive, begin, has_queue_room, high_marked, paid, take_by, close, serve, work, fetch, finish, discard, tell}
@@ -22,41 +22,41 @@ use Rattle.machine.proofs.Basics.{cases, tested, untrue, none_some, changed_same
 
 -- a packet behind those that wait
 abbrev pub behind : Packet → Bearer → Bearer
-behind q v = record { depth = v.depth; cost = v.cost; waiting = v.waiting ++ q ∷ []; armed = v.armed; signal = v.signal || v.armed }
+behind q v = record v { waiting = v.waiting ++ q ∷ []; signal = v.signal || v.armed }
 
 -- a packet was taken, and queued or not; the grant has m left, and the hold is h
 abbrev pub took : RawSettings → Grant → Packet → ℕ → ℕ → Bool → Core → Core
 took s g q m h room x =
-    with_hold h
-    (left_with g m
-    (with_queue (cond room (x.queue ++ q ∷ []) x.queue)
-    (with_counts (cond room x.counts (one_queue_full x.counts))
-    (charge s ((bearer_of x.bearers g.bearer).cost + cost_of_length q.length) (taken_off g x)))))
+    record (left_with g m (charge s ((bearer_of x.bearers g.bearer).cost + cost_of_length q.length) (taken_off g x))) {
+      hold = h;
+      queue = cond room (x.queue ++ q ∷ []) x.queue;
+      counts = cond room x.counts (one_queue_full x.counts);
+    }
 
 pub data Move (s : RawSettings) (p : Batches) (x : Core) : Call → Answer → Core → Type 0 where
   lost : {b n t : ℕ} → b < length x.bearers → has_room (bearer_of x.bearers b) ≡ false →
-      Move s p x (Arrive b n t) (Arrived (record { number = x.counts.numbered; accepted = false })) (with_counts (one_bearer_full (one_numbered x.counts)) x)
+      Move s p x (Arrive b n t) (Arrived (record { number = x.counts.numbered; accepted = false })) (record x { counts = one_bearer_full (one_numbered x.counts) })
   stored : {b n t : ℕ} → b < length x.bearers → has_room (bearer_of x.bearers b) ≡ true →
       ((bearer_of x.bearers b).signal || (bearer_of x.bearers b).armed) ≡ false →
       Move s p x (Arrive b n t) (Arrived (record { number = x.counts.numbered; accepted = true }))
-      (with_bearers (changed x.bearers b (behind (next_packet n t x))) (with_counts (one_numbered x.counts) x))
+      (record x { bearers = changed x.bearers b (behind (next_packet n t x)); counts = one_numbered x.counts })
   signalled : {b n t : ℕ} → b < length x.bearers → has_room (bearer_of x.bearers b) ≡ true →
       ((bearer_of x.bearers b).signal || (bearer_of x.bearers b).armed) ≡ true →
       Move s p x (Arrive b n t) (Arrived (record { number = x.counts.numbered; accepted = true }))
-      (charge s 60 (join b (with_bearers (changed x.bearers b (λ v. after_disarm (behind (next_packet n t x) v))) (with_counts (one_numbered x.counts) x))))
+      (charge s 60 (join b (record x { bearers = changed x.bearers b (λ v. after_disarm (behind (next_packet n t x) v)); counts = one_numbered x.counts })))
   begun : {b : ℕ} {rest : List ℕ} → x.grant ≡ None → x.listed ≡ b ∷ rest → x.clock.used < s.limit → x.hold ≡ 0 →
       Move s p x Step (Stepped (Begun b (p.quota b (length (waits x.bearers b)))))
-      (charge s 80 (with_grant (Some (record { bearer = b; left = p.quota b (length (waits x.bearers b)) })) (with_listed rest x)))
+      (charge s 80 (record x { listed = rest; grant = Some (record { bearer = b; left = p.quota b (length (waits x.bearers b)) }) }))
   emptied : {g : Grant} → x.grant ≡ Some g → waits x.bearers g.bearer ≡ [] → (g.left ≡ 0 → ⊥) →
       Move s p x Step (Stepped Empty) (left_with g 0 (taken_off g x))
   taken : {g : Grant} {q : Packet} {rest : List Packet} {m h : ℕ} {room : Bool} → x.grant ≡ Some g → waits x.bearers g.bearer ≡ q ∷ rest → (g.left ≡ 0 → ⊥) →
       m ≤ g.left - 1 → has_queue_room s x ≡ room → Move s p x Step (Stepped (Taken q.number room)) (took s g q m h room x)
-  rescheduled : {g : Grant} → x.grant ≡ Some g → g.left ≡ 0 → Move s p x Step (Stepped Rescheduled) (with_grant None (join g.bearer x))
+  rescheduled : {g : Grant} → x.grant ≡ Some g → g.left ≡ 0 → Move s p x Step (Stepped Rescheduled) (record (join g.bearer x) { grant = None })
   completed : {g : Grant} {o : Bool} → x.grant ≡ Some g → waits x.bearers g.bearer ≡ [] → g.left ≡ 0 → is_open s x ≡ o →
-      Move s p x Step (Stepped Completed) (with_grant None (with_bearers (cond o (changed x.bearers g.bearer (after_arm false)) x.bearers) x))
+      Move s p x Step (Stepped Completed) (record x { bearers = cond o (changed x.bearers g.bearer (after_arm false)) x.bearers; grant = None })
   worked : {c : ℕ} → 1 ≤ c → x.clock.elapsed + c ≤ s.period → Move s p x (Work c) Worked (offer_cycles s c x)
   fetched : {q : Packet} {rest : List Packet} {h : ℕ} → x.queue ≡ q ∷ rest →
-      Move s p x Fetch (Fetched q) (with_hold h (with_out (x.out ++ q.number ∷ []) (with_queue rest x)))
+      Move s p x Fetch (Fetched q) (record x { hold = h; queue = rest; out = x.out ++ q.number ∷ [] })
   finished : {n : ℕ} → holds n x.out ≡ true → Move s p x (Finish n) Finished (finish n x).1
   discarded : {n : ℕ} → holds n x.out ≡ true → Move s p x (Discard n) Discarded (discard n x).1
   told : Move s p x Tell (tell x).0 x
@@ -106,10 +106,10 @@ module _ (s : RawSettings) (p : Batches) (x : Core) where
       v = bearer_of x.bearers b
 
       with_board : List Bearer → Core
-      with_board k = with_bearers k (with_counts (one_numbered x.counts) x)
+      with_board k = record x { bearers = k; counts = one_numbered x.counts }
 
       after : Bool → List Bearer → Core
-      after room k = cond room (cond (bearer_of k b).signal (heard s b (with_board k)) (with_board k)) (with_counts (one_bearer_full (one_numbered x.counts)) (with_board k))
+      after room k = cond room (cond (bearer_of k b).signal (heard s b (with_board k)) (with_board k)) (record (with_board k) { counts = one_bearer_full (one_numbered x.counts) })
 
       signal_is : (bearer_of (changed x.bearers b (behind q)) b).signal ≡ (v.signal || v.armed)
       signal_is = ap (λ (w : Bearer). w.signal) (bearer_changed x.bearers b (behind q) l)
@@ -122,13 +122,13 @@ module _ (s : RawSettings) (p : Batches) (x : Core) where
 
   begin_moves : (l : List ℕ) → x.listed ≡ l → x.grant ≡ None → x.clock.used < s.limit → x.hold ≡ 0 → any_left l ≡ true →
       Move s p x Step (Stepped (Begun (get_or l 0 0) (p.quota (get_or l 0 0) (length (waits x.bearers (get_or l 0 0))))))
-      (charge s 80 (with_grant (Some (record { bearer = get_or l 0 0; left = p.quota (get_or l 0 0) (length (waits x.bearers (get_or l 0 0))) })) (with_listed (drop 1 l) x)))
+      (charge s 80 (record x { listed = drop 1 l; grant = Some (record { bearer = get_or l 0 0; left = p.quota (get_or l 0 0) (length (waits x.bearers (get_or l 0 0))) }) }))
   begin_moves [] e g u h a = untrue a
   begin_moves (b ∷ rest) e g u h a = begun g e u h
 
   close_moves : (g : Grant) → x.grant ≡ Some g → g.left ≡ 0 → Moves Step (close s g x)
   close_moves g e n = cases (Moves Step) (any_waiting (waits x.bearers g.bearer)) (λ _. rescheduled e n)
-      (λ h. cases (λ (y : Core). Move s p x Step (Stepped Completed) (with_grant None y)) (is_open s x) (completed e (none_left _ h) n) (completed e (none_left _ h) n))
+      (λ h. cases (λ (y : Core). Move s p x Step (Stepped Completed) (record y { grant = None })) (is_open s x) (completed e (none_left _ h) n) (completed e (none_left _ h) n))
 
   take_moves : (g : Grant) (w : List Packet) → x.grant ≡ Some g → (g.left ≡ 0 → ⊥) → waits x.bearers g.bearer ≡ w → Moves Step (take_by s g (slice_get w 0) x)
   take_moves g [] e n h = emptied e h n
@@ -139,7 +139,7 @@ module _ (s : RawSettings) (p : Batches) (x : Core) where
       y = paid s g q x
 
       after : Bool → Core
-      after room = cond room (with_queue (x.queue ++ q ∷ []) y) (with_counts (one_queue_full x.counts) y)
+      after room = cond room (record y { queue = x.queue ++ q ∷ [] }) (record y { counts = one_queue_full x.counts })
 
       marked : (room : Bool) → has_queue_room s x ≡ room → Move s p x Step (Stepped (Taken q.number room)) (high_marked s g (after room))
       marked true r = cases (Move s p x Step (Stepped (Taken q.number true))) (leb s.high (length (x.queue ++ q ∷ []))) (λ _. taken {m = 0} {h = s.hold} e h n (omega arith) r) (λ _. taken {m = g.left - 1} {h = y.hold} e h n (omega arith) r)
@@ -152,7 +152,7 @@ module _ (s : RawSettings) (p : Batches) (x : Core) where
       (λ n. take_moves g (waits x.bearers g.bearer) e (eqb-false g.left 0 n) refl)
 
   fetch_moves : (l : List Packet) → x.queue ≡ l → any_left l ≡ true →
-      Move s p x Fetch (Fetched (get_or l 0 blank)) (with_hold (cond (leb (length (drop 1 l)) s.low) 0 x.hold) (with_out (x.out ++ (get_or l 0 blank).number ∷ []) (with_queue (drop 1 l) x)))
+      Move s p x Fetch (Fetched (get_or l 0 blank)) (record x { hold = cond (leb (length (drop 1 l)) s.low) 0 x.hold; queue = drop 1 l; out = x.out ++ (get_or l 0 blank).number ∷ [] })
   fetch_moves [] e a = untrue a
   fetch_moves (q ∷ rest) e a = fetched e
 

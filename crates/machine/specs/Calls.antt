@@ -8,7 +8,7 @@ use Rattle.machine.specs.declared.answers.Answer.{Answer}
 use Rattle.machine.specs.declared.answers.Answer.TheVariants.{Arrived, Stepped, Worked, Fetched, Finished, Discarded, Told}
 use Rattle.machine.specs.declared.answers.Progress.TheVariants.{Begun, Empty, Taken, Rescheduled, Completed}
 use Rattle.machine.specs.declared.calls.RawSettings.{RawSettings}
-use Rattle.machine.specs.State.{Grant, Core, Batches, waits, is_open, with_bearers, with_hold, with_listed, with_grant, with_queue, with_out, with_counts}
+use Rattle.machine.specs.State.{Grant, Core, Batches, waits, is_open}
 use Rattle.machine.specs.Moves.{arm, disarm, join, charge, offer_cycles, one_numbered, one_bearer_full, one_queue_full, one_delivered, one_discarded}
 
 -- a number without its first place in a list
@@ -24,15 +24,15 @@ abbrev pub next_packet : ℕ → ℕ → Core → Packet
 next_packet n t x = record { number = x.counts.numbered; length = n; tag = t }
 
 abbrev pub offered : ℕ → ℕ → ℕ → Core → Core
-offered b n t x = with_bearers (changed x.bearers b (after_offer (next_packet n t x))) (with_counts (one_numbered x.counts) x)
+offered b n t x = record x { bearers = changed x.bearers b (after_offer (next_packet n t x)); counts = one_numbered x.counts }
 
 -- the grant runs on with so many packets left
 abbrev pub left_with : Grant → ℕ → Core → Core
-left_with g n x = with_grant (Some (record { bearer = g.bearer; left = n })) x
+left_with g n x = record x { grant = Some (record g { left = n }) }
 
 -- the oldest packet has left the bearer that is served
 abbrev pub taken_off : Grant → Core → Core
-taken_off g x = with_bearers (changed x.bearers g.bearer after_take) x
+taken_off g x = record x { bearers = changed x.bearers g.bearer after_take }
 
 module _ (s : RawSettings) where
   -- arrive. A bearer whose signal is up is disarmed and joins the poll list, at 60 cycles
@@ -44,7 +44,7 @@ module _ (s : RawSettings) where
       let room : Bool = has_room (bearer_of x.bearers b) in
       let y : Core = offered b n t x in (
         Arrived (record { number = x.counts.numbered; accepted = room }),
-        cond room (cond (bearer_of y.bearers b).signal (heard b y) y) (with_counts (one_bearer_full y.counts) y),
+        cond room (cond (bearer_of y.bearers b).signal (heard b y) y) (record y { counts = one_bearer_full y.counts }),
       )
 
   -- step without a grant: the first of the poll list leaves it and gets a grant, at 80 cycles
@@ -53,7 +53,7 @@ module _ (s : RawSettings) where
       let b : ℕ = slice_index_or x.listed 0 0 in
       let q : ℕ = p.quota b (length (waits x.bearers b)) in (
         Stepped (Begun b q),
-        charge s 80 (with_grant (Some (record { bearer = b; left = q })) (with_listed (drop 1 x.listed) x)),
+        charge s 80 (record x { listed = drop 1 x.listed; grant = Some (record { bearer = b; left = q }) }),
       )
 
   -- step, a grant with packets left: take from its bearer
@@ -62,11 +62,11 @@ module _ (s : RawSettings) where
 
   -- the packet joins the queue, or is dropped if S packets are there
   abbrev pub queued : Packet → Core → Core
-  queued q x = cond (has_queue_room x) (with_queue (x.queue ++ q ∷ []) x) (with_counts (one_queue_full x.counts) x)
+  queued q x = cond (has_queue_room x) (record x { queue = x.queue ++ q ∷ [] }) (record x { counts = one_queue_full x.counts })
 
   -- at the high mark the hold begins, and the grant has none left
   abbrev pub high_marked : Grant → Core → Core
-  high_marked g x = cond (nat_le s.high (length x.queue)) (with_hold s.hold (left_with g 0 x)) x
+  high_marked g x = cond (nat_le s.high (length x.queue)) (record (left_with g 0 x) { hold = s.hold }) x
 
   abbrev pub paid : Grant → Packet → Core → Core
   paid g q x = charge s ((bearer_of x.bearers g.bearer).cost + cost_of_length q.length) (left_with g (g.left - 1) (taken_off g x))
@@ -79,8 +79,8 @@ module _ (s : RawSettings) where
   abbrev pub close : Grant → Core → Answer × Core
   close g x =
       cond (any_waiting (waits x.bearers g.bearer))
-      (Stepped Rescheduled, with_grant None (join g.bearer x))
-      (Stepped Completed, with_grant None (cond (is_open s x) (arm g.bearer x) x))
+      (Stepped Rescheduled, record (join g.bearer x) { grant = None })
+      (Stepped Completed, record (cond (is_open s x) (arm g.bearer x) x) { grant = None })
 
   unfoldable pub serve : Grant → Core → Answer × Core
   serve g x = cond (g.left == 0) (close g x) (take_by g (slice_get (waits x.bearers g.bearer) 0) x)
@@ -94,14 +94,14 @@ module _ (s : RawSettings) where
       let q : Packet = slice_index_or x.queue 0 blank in
       let rest : List Packet = drop 1 x.queue in (
         Fetched q,
-        with_hold (cond (nat_le (length rest) s.low) 0 x.hold) (with_out (x.out ++ q.number ∷ []) (with_queue rest x)),
+        record x { hold = cond (nat_le (length rest) s.low) 0 x.hold; queue = rest; out = x.out ++ q.number ∷ [] },
       )
 
 abbrev pub finish : ℕ → Core → Answer × Core
-finish n x = (Finished, with_out (without n x.out) (with_counts (one_delivered x.counts) x))
+finish n x = (Finished, record x { out = without n x.out; counts = one_delivered x.counts })
 
 abbrev pub discard : ℕ → Core → Answer × Core
-discard n x = (Discarded, with_out (without n x.out) (with_counts (one_discarded x.counts) x))
+discard n x = (Discarded, record x { out = without n x.out; counts = one_discarded x.counts })
 
 abbrev pub tell : Core → Answer × Core
 tell x = (Told (record { counts = x.counts; closed = x.clock.closed; last = x.clock.last }), x)

@@ -29,9 +29,6 @@ pub record Ledger : Type 0 where
   pub serving : ℕ
   pub size : ℕ
 
-abbrev pub with_columns : Columns → Ledger → Ledger
-with_columns k l = record { columns = k; next = l.next; serving = l.serving; size = l.size }
-
 -- the column of a bearer
 abbrev pub column : Ledger → ℕ → List ℕ
 column l b = slice_index_or l.columns.waiting b []
@@ -49,55 +46,33 @@ nothing n =
 -- Numbers join at the back. The next number arrives: in its bearer's column, or as bearer_full.
 abbrev pub put_in : Bool → ℕ → Ledger → Columns
 put_in room b l =
-    record {
+    record l.columns {
       waiting = cond room (slice_set l.columns.waiting b (column l b ++ l.next ∷ [])) l.columns.waiting;
-      queue = l.columns.queue;
-      out = l.columns.out;
-      delivered = l.columns.delivered;
       bearer_full = cond room l.columns.bearer_full (l.columns.bearer_full ++ l.next ∷ []);
-      queue_full = l.columns.queue_full;
-      discarded = l.columns.discarded;
     }
 
 abbrev pub arrives : Bool → ℕ → Ledger → Ledger
-arrives room b l = record { columns = put_in room b l; next = l.next + 1; serving = l.serving; size = l.size }
+arrives room b l = record l { columns = put_in room b l; next = l.next + 1 }
 
 -- the front of a bearer's column leaves it: for the queue, or as queue_full
 abbrev pub taken_from : Bool → ℕ → Columns → Columns
 taken_from room b k =
-    record {
+    record k {
       waiting = slice_set k.waiting b (drop 1 (slice_index_or k.waiting b []));
       queue = cond room (k.queue ++ take 1 (slice_index_or k.waiting b [])) k.queue;
-      out = k.out;
-      delivered = k.delivered;
-      bearer_full = k.bearer_full;
       queue_full = cond room k.queue_full (k.queue_full ++ take 1 (slice_index_or k.waiting b []));
-      discarded = k.discarded;
     }
 
 -- the front of the queue's column goes out
 abbrev pub handed_out : Columns → Columns
-handed_out k =
-    record {
-      waiting = k.waiting;
-      queue = drop 1 k.queue;
-      out = k.out ++ take 1 k.queue;
-      delivered = k.delivered;
-      bearer_full = k.bearer_full;
-      queue_full = k.queue_full;
-      discarded = k.discarded;
-    }
+handed_out k = record k { queue = drop 1 k.queue; out = k.out ++ take 1 k.queue }
 
 -- a number that is out is delivered, or discarded
 abbrev pub spent : Bool → ℕ → Columns → Columns
 spent finished n k =
-    record {
-      waiting = k.waiting;
-      queue = k.queue;
+    record k {
       out = without n k.out;
       delivered = cond finished (k.delivered ++ n ∷ []) k.delivered;
-      bearer_full = k.bearer_full;
-      queue_full = k.queue_full;
       discarded = cond finished k.discarded (k.discarded ++ n ∷ []);
     }
 
@@ -121,21 +96,21 @@ progress_in (Told r) = None
 
 abbrev pub stepped : Option Progress → Ledger → Ledger
 stepped None l = l
-stepped (Some (Begun b q)) l = record { columns = l.columns; next = l.next; serving = b; size = l.size }
+stepped (Some (Begun b q)) l = record l { serving = b }
 stepped (Some Empty) l = l
-stepped (Some (Taken n q)) l = with_columns (taken_from (queue_room l) l.serving l.columns) l
+stepped (Some (Taken n q)) l = record l { columns = taken_from (queue_room l) l.serving l.columns }
 stepped (Some Rescheduled) l = l
 stepped (Some Completed) l = l
 
 -- an accepted call moves numbers; a refused one moves nothing
 abbrev pub accepted : List ℕ → Call → Answer → Ledger → Ledger
-accepted depths (Configure s) a l = record { columns = l.columns; next = l.next; serving = l.serving; size = s.size }
+accepted depths (Configure s) a l = record l { size = s.size }
 accepted depths (Arrive b n t) a l = arrives (column_room depths l b) b l
 accepted depths Step a l = stepped (progress_in a) l
 accepted depths (Work c) a l = l
-accepted depths Fetch a l = with_columns (handed_out l.columns) l
-accepted depths (Finish n) a l = with_columns (spent true n l.columns) l
-accepted depths (Discard n) a l = with_columns (spent false n l.columns) l
+accepted depths Fetch a l = record l { columns = handed_out l.columns }
+accepted depths (Finish n) a l = record l { columns = spent true n l.columns }
+accepted depths (Discard n) a l = record l { columns = spent false n l.columns }
 accepted depths Tell a l = l
 
 abbrev pub told : List ℕ → Call → Result Answer Refusal → Ledger → Ledger

@@ -3,17 +3,17 @@ use Rattle.std.specs.Prelude.{ℕ, zero, suc, ◌+◌, ◌-◌, Bool, false, con
 use Rattle.board.specs.Bearers.{changed, any_waiting, after_arm, after_disarm}
 use Rattle.machine.specs.declared.answers.Counts.{Counts}
 use Rattle.machine.specs.declared.calls.RawSettings.{RawSettings}
-use Rattle.machine.specs.State.{Clock, Core, waits, busy, is_open, with_bearers, with_clock, with_hold, with_listed}
+use Rattle.machine.specs.State.{Clock, Core, waits, busy, is_open}
 
 -- Bearers. The receiver arms a bearer only where nothing waits, or disarms it at once, so that it does not matter whether the bearer's kind raises the signal.
 abbrev pub arm : ℕ → Core → Core
-arm b x = with_bearers (changed x.bearers b (after_arm false)) x
+arm b x = record x { bearers = changed x.bearers b (after_arm false) }
 
 abbrev pub disarm : ℕ → Core → Core
-disarm b x = with_bearers (changed x.bearers b after_disarm) x
+disarm b x = record x { bearers = changed x.bearers b after_disarm }
 
 abbrev pub join : ℕ → Core → Core
-join b x = with_listed (x.listed ++ b ∷ []) x
+join b x = record x { listed = x.listed ++ b ∷ [] }
 
 -- Time. A period closes where the cycles elapsed have reached its end.
 abbrev pub is_over : RawSettings → Clock → Bool
@@ -23,14 +23,14 @@ abbrev pub next_period : RawSettings → Clock → Clock
 next_period s k = record { elapsed = k.elapsed - s.period; used = k.elapsed - s.period; offered = 0; closed = k.closed + 1; last = Some (record { offered = k.offered; network = s.period - k.offered }) }
 
 abbrev pub settle : RawSettings → Clock → Core → Core
-settle s k x = with_clock (cond (is_over s k) (next_period s k) k) (with_hold (cond (is_over s k) (x.hold - 1) x.hold) x)
+settle s k x = record x { clock = cond (is_over s k) (next_period s k) k; hold = cond (is_over s k) (x.hold - 1) x.hold }
 
 -- cycles that bearers use, and cycles that the application is offered
 abbrev pub charge : RawSettings → ℕ → Core → Core
-charge s c x = settle s (record { elapsed = x.clock.elapsed + c; used = x.clock.used + c; offered = x.clock.offered; closed = x.clock.closed; last = x.clock.last }) x
+charge s c x = settle s (record x.clock { elapsed = x.clock.elapsed + c; used = x.clock.used + c }) x
 
 abbrev pub offer_cycles : RawSettings → ℕ → Core → Core
-offer_cycles s c x = settle s (record { elapsed = x.clock.elapsed + c; used = x.clock.used; offered = x.clock.offered + c; closed = x.clock.closed; last = x.clock.last }) x
+offer_cycles s c x = settle s (record x.clock { elapsed = x.clock.elapsed + c; offered = x.clock.offered + c }) x
 
 -- The gate. When it opens, each bearer in the order of the numbers that is neither listed nor served is armed; one in which packets wait is then disarmed and listed.
 abbrev pub open_bearer : ℕ → Core → Core
@@ -46,7 +46,7 @@ open_gate x = on_each open_bearer 0 (length x.bearers) x
 
 -- when it shuts, every bearer is disarmed
 unfoldable pub shut_gate : Core → Core
-shut_gate x = with_bearers (map after_disarm x.bearers) x
+shut_gate x = record x { bearers = map after_disarm x.bearers }
 
 -- the gate is set at the end of an accepted call, by what it was before the call and what it is to be
 unfoldable pub set_gate : RawSettings → Core → Core → Core
@@ -54,16 +54,16 @@ set_gate s before x = cond (is_open s before) (cond (is_open s x) x (shut_gate x
 
 -- Counts.
 abbrev pub one_numbered : Counts → Counts
-one_numbered n = record { numbered = n.numbered + 1; delivered = n.delivered; bearer_full = n.bearer_full; queue_full = n.queue_full; discarded = n.discarded }
+one_numbered n = record n { numbered = n.numbered + 1 }
 
 abbrev pub one_bearer_full : Counts → Counts
-one_bearer_full n = record { numbered = n.numbered; delivered = n.delivered; bearer_full = n.bearer_full + 1; queue_full = n.queue_full; discarded = n.discarded }
+one_bearer_full n = record n { bearer_full = n.bearer_full + 1 }
 
 abbrev pub one_queue_full : Counts → Counts
-one_queue_full n = record { numbered = n.numbered; delivered = n.delivered; bearer_full = n.bearer_full; queue_full = n.queue_full + 1; discarded = n.discarded }
+one_queue_full n = record n { queue_full = n.queue_full + 1 }
 
 abbrev pub one_delivered : Counts → Counts
-one_delivered n = record { numbered = n.numbered; delivered = n.delivered + 1; bearer_full = n.bearer_full; queue_full = n.queue_full; discarded = n.discarded }
+one_delivered n = record n { delivered = n.delivered + 1 }
 
 abbrev pub one_discarded : Counts → Counts
-one_discarded n = record { numbered = n.numbered; delivered = n.delivered; bearer_full = n.bearer_full; queue_full = n.queue_full; discarded = n.discarded + 1 }
+one_discarded n = record n { discarded = n.discarded + 1 }

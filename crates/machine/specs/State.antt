@@ -61,28 +61,3 @@ busy x b = holds b x.listed || serves x.grant b
 -- the gate is open while used is below N and the hold is 0
 abbrev pub is_open : RawSettings → Core → Bool
 is_open s x = nat_lt x.clock.used s.limit && x.hold == 0
-
--- the same receiver with another of its parts
-abbrev pub with_bearers : List Bearer → Core → Core
-with_bearers bs x = record { bearers = bs; clock = x.clock; hold = x.hold; listed = x.listed; grant = x.grant; queue = x.queue; out = x.out; counts = x.counts }
-
-abbrev pub with_clock : Clock → Core → Core
-with_clock k x = record { bearers = x.bearers; clock = k; hold = x.hold; listed = x.listed; grant = x.grant; queue = x.queue; out = x.out; counts = x.counts }
-
-abbrev pub with_hold : ℕ → Core → Core
-with_hold h x = record { bearers = x.bearers; clock = x.clock; hold = h; listed = x.listed; grant = x.grant; queue = x.queue; out = x.out; counts = x.counts }
-
-abbrev pub with_listed : List ℕ → Core → Core
-with_listed l x = record { bearers = x.bearers; clock = x.clock; hold = x.hold; listed = l; grant = x.grant; queue = x.queue; out = x.out; counts = x.counts }
-
-abbrev pub with_grant : Option Grant → Core → Core
-with_grant g x = record { bearers = x.bearers; clock = x.clock; hold = x.hold; listed = x.listed; grant = g; queue = x.queue; out = x.out; counts = x.counts }
-
-abbrev pub with_queue : List Packet → Core → Core
-with_queue q x = record { bearers = x.bearers; clock = x.clock; hold = x.hold; listed = x.listed; grant = x.grant; queue = q; out = x.out; counts = x.counts }
-
-abbrev pub with_out : List ℕ → Core → Core
-with_out o x = record { bearers = x.bearers; clock = x.clock; hold = x.hold; listed = x.listed; grant = x.grant; queue = x.queue; out = o; counts = x.counts }
-
-abbrev pub with_counts : Counts → Core → Core
-with_counts n x = record { bearers = x.bearers; clock = x.clock; hold = x.hold; listed = x.listed; grant = x.grant; queue = x.queue; out = x.out; counts = n }
