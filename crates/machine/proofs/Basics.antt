@@ -1,7 +1,7 @@
 -- Small facts about tests, lists and changed bearers.
-use Rattle.std.proofs.Common.{◌≡◌, ℕ, zero, suc, ◌<◌, ◌≤◌, Bool, true, false, cond, eqb, ltb, List, [], ◌∷◌, map, length, set, Some, None, sym, refl, ap, ◌∙◌, subst, ⊎_elim, arith}
+use Rattle.std.proofs.Common.{◌≡◌, ℕ, zero, suc, ◌<◌, ◌≤◌, Bool, true, false, ltb, List, [], ◌∷◌, map, length, set, sym, refl, ap, ◌∙◌, subst, ⊎_elim, arith}
 use Rattle.std.proofs.lemmas.List.{set-get_or, get_or-set_other, get_or_past, nil_from_length}
-use Rattle.std.proofs.lemmas.Bool.{cases_lt, cases_eq, eq-eqb, ne_eqb, ltb-false}
+use Rattle.std.proofs.lemmas.Bool.{cases_lt, cases_eq, ltb-false}
 use Rattle.board.specs.Bearers.{Bearer, absent, bearer_of, changed}
 use Rattle.board.proofs.Changes.{bearer_changed, changed_past}
 
@@ -9,16 +9,6 @@ use Rattle.board.proofs.Changes.{bearer_changed, changed_past}
 pub tested : (P : Bool → Type 0) (b : Bool) → (b ≡ true → P true) → (b ≡ false → P false) → P b
 tested P true t f = t refl
 tested P false t f = f refl
-
-pub cases : {A : Type 0} (P : A → Type 0) (b : Bool) {x y : A} → (b ≡ true → P x) → (b ≡ false → P y) → P (cond b x y)
-cases P true t f = t refl
-cases P false t f = f refl
-
-pub untrue : {A : Type 0} → false ≡ true → A
-untrue e = let z : ◌≡◌ {A = ℕ} 0 1 = cc in absurd (omega arith)
-
-pub none_some : {A B : Type 0} (a : A) → Some a ≡ None → B
-none_some a e = let z : ◌≡◌ {A = ℕ} 0 1 = cc in absurd (omega arith)
 
 -- a bearer of a board on which one was changed: that one, if it is shown, or as it was
 pub at_changed : (P : Bearer → Type 0) (bs : List Bearer) (b c : ℕ) (f : Bearer → Bearer) →
@@ -49,17 +39,6 @@ pub at_mapped : (P : Bearer → Type 0) (f : Bearer → Bearer) (bs : List Beare
 at_mapped P f [] b none there = none
 at_mapped P f (x ∷ bs) zero none there = there
 at_mapped P f (x ∷ bs) (suc b) none there = at_mapped P f bs b none there
-
--- one or none
-pub hit : (b c : ℕ) → c ≡ b → cond {A = ℕ} (eqb b c) 1 0 ≡ 1
-hit b c e = ap {B = ℕ} (λ t. cond t 1 0) (eq-eqb b c (sym e))
-
-pub miss : (b c : ℕ) → (c ≡ b → ⊥) → cond {A = ℕ} (eqb b c) 1 0 ≡ 0
-miss b c n = ap {B = ℕ} (λ t. cond t 1 0) (ne_eqb b c (λ e. n (sym e)))
-
-pub one_most : (t : Bool) → cond t 1 0 ≤ 1
-one_most true = omega arith
-one_most false = omega arith
 
 -- nothing is left
 pub none_left : {A : Type 0} (xs : List A) → ltb 0 (length xs) ≡ false → xs ≡ []

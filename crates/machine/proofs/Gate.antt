@@ -1,14 +1,14 @@
 -- The gate, set at the end of a call, leaves all tidy, whatever it finds.
-use Rattle.std.proofs.Common.{◌≡◌, ℕ, zero, suc, ◌+◌, ◌<◌, ◌≤◌, Bool, true, false, cond, List, [], ◌∷◌, ◌++◌, length, Option, sym, refl, ap, ◌∙◌, subst, ⊎_elim, arith}
-use Rattle.std.proofs.lemmas.Bool.{cases_eq, and_right}
+use Rattle.std.proofs.Common.{◌≡◌, ℕ, zero, suc, ◌+◌, ◌<◌, ◌≤◌, Bool, true, false, cond, List, [], ◌∷◌, ◌++◌, length, Option, sym, refl, ◌∙◌, subst, ⊎_elim, arith}
+use Rattle.std.proofs.lemmas.Bool.{cases_eq, cond_both}
 use Rattle.std.proofs.lemmas.List.{length-set}
-use Rattle.board.specs.Bearers.{Bearer, bearer_of, changed, any_waiting, after_arm, after_disarm}
+use Rattle.board.specs.Bearers.{Bearer, absent, bearer_of, changed, any_waiting, after_arm, after_disarm}
 use Rattle.board.proofs.Changes.{changed_twice}
 use Rattle.machine.specs.declared.calls.RawSettings.{RawSettings}
 use Rattle.machine.specs.State.{Grant, Core, waits, busy, is_open}
 use Rattle.machine.specs.Moves.{arm, join, open_bearer, on_each, open_gate, shut_gate, set_gate}
-use Rattle.machine.proofs.Basics.{cases, untrue, at_changed, on_changed, at_mapped, hit, miss, one_most, none_left, past_disarmed}
-use Rattle.machine.proofs.Loads.{turns, load, TidyCore, times-append, busy_turns, free_turns}
+use Rattle.machine.proofs.Basics.{at_changed, on_changed, at_mapped, none_left, past_disarmed}
+use Rattle.machine.proofs.Loads.{turns, load, Calm, calm_armed, calm_disarmed, TidyCore, times-append, busy_turns, free_turns}
 
 -- moves on each bearer in turn: what every move keeps; and what each move reaches at its own bearer and every move keeps
 pub on_each_keeps : (P : Core → Type 0) (move : ℕ → Core → Core) → ((b : ℕ) (x : Core) → P x → P (move b x)) → (i n : ℕ) (x : Core) → P x → P (on_each move i n x)
@@ -26,25 +26,10 @@ on_each_reaches P Q move keep reach stay i (suc n) x h c low high =
     (λ (ne : c ≡ i → ⊥). on_each_reaches P Q move keep reach stay (i + 1) n (move i x) (keep i x h) c (omega arith) (omega arith))
     (cases_eq c i)
 
--- a bearer armed: it is armed, quiet if it was, and has the same packets
-pub arm_armed : (v : Bearer) → (after_arm false v).armed ≡ true
-arm_armed v = by v.armed refl
-  where
-    by : (t : Bool) → v.armed ≡ t → (after_arm false v).armed ≡ true
-    by true e = cases (λ (w : Bearer). w.armed ≡ true) v.armed (λ _. e) (λ _. refl)
-    by false e = cases (λ (w : Bearer). w.armed ≡ true) v.armed (λ h. h) (λ _. refl)
-
-pub arm_quiet : (v : Bearer) → v.signal ≡ false → (after_arm false v).signal ≡ false
-arm_quiet v q = cases (λ (w : Bearer). w.signal ≡ false) v.armed (λ _. q) (λ _. and_right (any_waiting v.waiting) false refl)
-
-pub arm_waiting : (v : Bearer) → (after_arm false v).waiting ≡ v.waiting
-arm_waiting v = cases (λ (w : Bearer). w.waiting ≡ v.waiting) v.armed (λ _. refl) (λ _. refl)
-
 -- The opening. What holds from bearer to bearer, of a board of n bearers.
 record Opening (n : ℕ) (bs : List Bearer) (l : List ℕ) (g : Option Grant) : Type 0 where
   size : length bs ≡ n
-  quiet : (b : ℕ) → (bearer_of bs b).signal ≡ false
-  empty : (b : ℕ) → (bearer_of bs b).armed ≡ true → waits bs b ≡ []
+  calm : (b : ℕ) → Calm (bearer_of bs b)
   once : (b : ℕ) → load bs l g b ≤ 1
 
 abbrev OpeningCore : ℕ → Core → Type 0
@@ -64,45 +49,43 @@ module _ (n b : ℕ) (x : Core) (h : OpeningCore n x) where
   same_opened e = record { opening = h; ready = λ _. omega (arith, busy_turns x b e); others = λ _ _. refl }
 
   armed_opened : busy x b ≡ false → waits x.bearers b ≡ [] → Opened n b x (arm b x)
-  armed_opened e w = record {
-    opening = record {
-      size = length-set x.bearers b _ ∙ h.size;
-      quiet = λ c. on_changed (λ y. y.signal ≡ false) x.bearers b c (after_arm false) (arm_quiet (bearer_of x.bearers b) (h.quiet b)) (h.quiet c);
-      empty = λ c. on_changed (λ y. y.armed ≡ true → y.waiting ≡ []) x.bearers b c (after_arm false) (λ _. arm_waiting (bearer_of x.bearers b) ∙ w) (h.empty c);
-      once = λ c. at_changed (λ y. cond y.armed 1 0 + turns x.listed x.grant c ≤ 1) x.bearers b c (after_arm false)
-          (λ i _. subst (λ d. cond (after_arm false (bearer_of x.bearers b)).armed 1 0 + turns x.listed x.grant d ≤ 1) (sym i)
-          (omega (arith, free_turns x b e, one_most (after_arm false (bearer_of x.bearers b)).armed))) (λ _. h.once c);
-    };
-    ready = λ i. at_changed (λ y. 1 ≤ cond y.armed 1 0 + turns x.listed x.grant b) x.bearers b b (after_arm false)
-        (λ _ _. omega (arith, ap {B = ℕ} (λ t. cond t 1 0) (arm_armed (bearer_of x.bearers b)))) (λ k. absurd (omega (arith, k refl, h.size)));
-    others = λ c k. at_changed (λ y. cond y.armed 1 0 + turns x.listed x.grant c ≡ load x.bearers x.listed x.grant c) x.bearers b c (after_arm false) (λ i _. absurd (k i)) (λ _. refl);
-  }
+  armed_opened e w =
+      let free = free_turns x b e in
+      record {
+        opening = record {
+          size = length-set x.bearers b _ ∙ h.size;
+          calm = λ c. on_changed Calm x.bearers b c (after_arm false) (calm_armed (bearer_of x.bearers b) (h.calm b).quiet w) (h.calm c);
+          once = λ c. at_changed (λ y. cond y.armed 1 0 + turns x.listed x.grant c ≤ 1) x.bearers b c (after_arm false) (λ i _. rw i (grind arith)) (λ _. h.once c);
+        };
+        ready = λ i. at_changed (λ y. 1 ≤ cond y.armed 1 0 + turns x.listed x.grant b) x.bearers b b (after_arm false)
+            (λ _ _. grind arith) (λ k. absurd (omega (arith, k refl, h.size)));
+        others = λ c k. at_changed (λ y. cond y.armed 1 0 + turns x.listed x.grant c ≡ load x.bearers x.listed x.grant c) x.bearers b c (after_arm false) (λ i _. absurd (k i)) (λ _. refl);
+      }
 
   listed_opened : busy x b ≡ false → Opened n b x (join b (record x { bearers = changed x.bearers b (λ v. after_disarm (after_arm false v)) }))
   listed_opened e =
       let f : Bearer → Bearer = λ v. after_disarm (after_arm false v) in
       let l : List ℕ = x.listed ++ b ∷ [] in
+      let free = free_turns x b e in
       record {
         opening = record {
           size = length-set x.bearers b _ ∙ h.size;
-          quiet = λ c. on_changed (λ y. y.signal ≡ false) x.bearers b c f refl (h.quiet c);
-          empty = λ c. on_changed (λ y. y.armed ≡ true → y.waiting ≡ []) x.bearers b c f (λ u. untrue u) (h.empty c);
+          calm = λ c. on_changed Calm x.bearers b c f (calm_disarmed (after_arm false (bearer_of x.bearers b))) (h.calm c);
           once = λ c. at_changed (λ y. cond y.armed 1 0 + turns l x.grant c ≤ 1) x.bearers b c f
-              (λ i _. subst (λ d. 0 + turns l x.grant d ≤ 1) (sym i) (omega (arith, free_turns x b e, times-append b x.listed (b ∷ []), hit b b refl)))
+              (λ i _. rw i (grind (arith, times-append)))
               (λ k. ⊎_elim
-              (λ (i : c ≡ b). subst (λ d. load x.bearers l x.grant d ≤ 1) (sym i)
-              (omega (arith, ap {B = ℕ} (λ t. cond t 1 0) (past_disarmed x.bearers b (k i)), free_turns x b e, times-append b x.listed (b ∷ []), hit b b refl)))
-              (λ (m : c ≡ b → ⊥). omega (arith, h.once c, times-append c x.listed (b ∷ []), miss b c m)) (cases_eq c b));
+              (λ (i : c ≡ b). rw i (grind (arith, past_disarmed x.bearers b (k i), times-append)))
+              (λ (m : c ≡ b → ⊥). grind (arith, h.once c, times-append)) (cases_eq c b));
         };
         ready = λ _. at_changed (λ y. 1 ≤ cond y.armed 1 0 + turns l x.grant b) x.bearers b b f
-            (λ _ _. omega (arith, times-append b x.listed (b ∷ []), hit b b refl)) (λ _. omega (arith, times-append b x.listed (b ∷ []), hit b b refl));
+            (λ _ _. grind (arith, times-append)) (λ _. grind (arith, times-append));
         others = λ c k. at_changed (λ y. cond y.armed 1 0 + turns l x.grant c ≡ load x.bearers x.listed x.grant c) x.bearers b c f (λ i _. absurd (k i))
-            (λ _. omega (arith, times-append c x.listed (b ∷ []), miss b c k));
+            (λ _. grind (arith, times-append));
       }
 
   step_opened : Opened n b x (open_bearer b x)
-  step_opened = cases (Opened n b x) (busy x b) same_opened
-      (λ e. cases (Opened n b x) (any_waiting (waits x.bearers b))
+  step_opened = cond_both (busy x b) _ _ (Opened n b x) same_opened
+      (λ e. cond_both (any_waiting (waits x.bearers b)) _ _ (Opened n b x)
       (λ _. subst (λ (k : List Bearer). Opened n b x (join b (record x { bearers = k }))) (sym (changed_twice x.bearers b (after_arm false) after_disarm)) (listed_opened e))
       (λ w. armed_opened e (none_left (waits x.bearers b) w)))
 
@@ -111,13 +94,12 @@ opened_tidy : (x : Core) → TidyCore false x → TidyCore true (open_gate x)
 unfolding open_gate
 opened_tidy x t =
     let n : ℕ = length x.bearers in
-    let start : OpeningCore n x = record { size = refl; quiet = t.quiet; empty = t.empty; once = t.once } in
+    let start : OpeningCore n x = record { size = refl; calm = t.calm; once = t.once } in
     let o : OpeningCore n (on_each open_bearer 0 n x) = on_each_keeps (OpeningCore n) open_bearer (λ b y k. (step_opened n b y k).opening) 0 n x start in
     record {
-      quiet = o.quiet;
-      empty = o.empty;
+      calm = o.calm;
       once = o.once;
-      shut = λ e. untrue (sym e);
+      shut = λ e. cc e;
       ready = λ _ c l. on_each_reaches (OpeningCore n) (Ready n) open_bearer (λ b y k. (step_opened n b y k).opening) (λ b y k. (step_opened n b y k).ready) kept 0 n x start c (omega arith) (omega (arith, o.size)) (omega (arith, o.size));
     }
   where
@@ -132,27 +114,26 @@ opened_tidy x t =
 shut_tidy : (gate : Bool) (x : Core) → TidyCore gate x → TidyCore false (shut_gate x)
 unfolding shut_gate
 shut_tidy gate x t = record {
-  quiet = λ b. at_mapped (λ y. y.signal ≡ false) after_disarm x.bearers b refl refl;
-  empty = λ b. at_mapped (λ y. y.armed ≡ true → y.waiting ≡ []) after_disarm x.bearers b (λ e. untrue e) (λ e. untrue e);
+  calm = λ b. at_mapped Calm after_disarm x.bearers b (calm_disarmed absent) (calm_disarmed (bearer_of x.bearers b));
   once = λ b. at_mapped (λ y. cond y.armed 1 0 + turns x.listed x.grant b ≤ 1) after_disarm x.bearers b (omega (arith, t.once b)) (omega (arith, t.once b));
   shut = λ _ b. at_mapped (λ y. y.armed ≡ false) after_disarm x.bearers b refl refl;
-  ready = λ e. untrue e;
+  ready = λ e. cc e;
 }
 
 -- the gate moves nothing that decides whether it is open
 opened_open : (s : RawSettings) (x : Core) → is_open s (open_gate x) ≡ is_open s x
 unfolding open_gate
 opened_open s x = on_each_keeps (λ y. is_open s y ≡ is_open s x) open_bearer
-    (λ b y e. cases (λ (z : Core). is_open s z ≡ is_open s x) (busy y b) (λ _. e)
-    (λ _. cases (λ (z : Core). is_open s z ≡ is_open s x) (any_waiting (waits y.bearers b)) (λ _. e) (λ _. e)))
+    (λ b y e. cond_both (busy y b) _ _ (λ (z : Core). is_open s z ≡ is_open s x) (λ _. e)
+    (λ _. cond_both (any_waiting (waits y.bearers b)) _ _ (λ (z : Core). is_open s z ≡ is_open s x) (λ _. e) (λ _. e)))
     0 (length x.bearers) x refl
 
 pub gate_tidy : (s : RawSettings) (x y : Core) → TidyCore (is_open s x) y → TidyCore (is_open s (set_gate s x y)) (set_gate s x y)
 unfolding set_gate shut_gate
 gate_tidy s x y t =
-    cases TidyAt (is_open s x)
-    (λ was. cases TidyAt (is_open s y) (λ is. same was is) (λ is. at_gate is (shut_tidy (is_open s x) y t)))
-    (λ was. cases TidyAt (is_open s y) (λ is. subst (λ o. TidyCore o (open_gate y)) (sym (opened_open s y ∙ is)) (opened_tidy y (subst (λ o. TidyCore o y) was t))) (λ is. same was is))
+    cond_both (is_open s x) _ _ TidyAt
+    (λ was. cond_both (is_open s y) _ _ TidyAt (λ is. same was is) (λ is. at_gate is (shut_tidy (is_open s x) y t)))
+    (λ was. cond_both (is_open s y) _ _ TidyAt (λ is. subst (λ o. TidyCore o (open_gate y)) (sym (opened_open s y ∙ is)) (opened_tidy y (subst (λ o. TidyCore o y) was t))) (λ is. same was is))
   where
     TidyAt : Core → Type 0
     TidyAt z = TidyCore (is_open s z) z

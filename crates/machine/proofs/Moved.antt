@@ -1,7 +1,7 @@
 -- What a call comes to: it is refused, it configures, or it is one of the moves below. Every law is shown by these cases.
 use Rattle.std.proofs.Common.{◌≡◌, ℕ, ◌+◌, ◌-◌, ◌<◌, ◌≤◌, Bool, true, false, cond, ◌||◌, eqb, leb, List, [], ◌∷◌, ◌++◌, length, get_or, drop, Some, None, Ok, Err, Option, Result, sym, refl, ap, ◌∙◌, subst, arith}
 use Rattle.std.specs.List.{slice_get}
-use Rattle.std.proofs.lemmas.Bool.{ltb-true, leb-true, eqb-true, eqb-false, and_parts}
+use Rattle.std.proofs.lemmas.Bool.{cond_both, ltb-true, leb-true, eqb-true, eqb-false, and_parts}
 use Rattle.board.specs.declared.packets.Packet.{Packet}
 use Rattle.board.specs.Bearers.{Bearer, bearer_of, changed, has_room, any_waiting, after_offer, after_arm, after_disarm}
 use Rattle.board.specs.Costs.{cost_of_length}
@@ -18,7 +18,7 @@ use Rattle.machine.specs.Settings.{Check, first, settings_checks, grant_bound}
 use Rattle.machine.specs.Moves.{join, charge, offer_cycles, set_gate, one_numbered, one_bearer_full, one_queue_full}
 use Rattle.machine.specs.Calls.{blank, next_packet, left_with, taken_off, heard, arrive, begin, has_queue_room, high_marked, paid, take_by, close, serve, work, fetch, finish, discard, tell}
 use Rattle.machine.specs.Machine.{unless, any_left, no_counts, fresh, waiting_checks, configure_checks, idle_call, arrive_checks, step_checks, work_checks, fetch_checks, out_checks, step_by, checked, running_call, call}
-use Rattle.machine.proofs.Basics.{cases, tested, untrue, none_some, changed_same, none_left}
+use Rattle.machine.proofs.Basics.{tested, changed_same, none_left}
 
 -- a packet behind those that wait
 abbrev pub behind : Packet → Bearer → Bearer
@@ -72,7 +72,7 @@ all_passed (c ∷ cs) h = by (all_passed cs) c.0 h
   where
     by : (first cs ≡ None → Passed cs) → (t : Bool) → cond t (first cs) (Some c.1) ≡ None → (t ≡ true) × Passed cs
     by rest true h = (refl, rest h)
-    by rest false h = none_some c.1 h
+    by rest false h = cc
 
 pub passed_append : (cs ds : List Check) → Passed (cs ++ ds) → Passed cs × Passed ds
 passed_append [] ds h = (tt, h)
@@ -115,7 +115,7 @@ module _ (s : RawSettings) (p : Batches) (x : Core) where
       signal_is = ap (λ (w : Bearer). w.signal) (bearer_changed x.bearers b (behind q) l)
 
       kept : has_room v ≡ true → Move s p x (Arrive b n t) (Arrived (record { number = x.counts.numbered; accepted = true })) (after true (changed x.bearers b (behind q)))
-      kept e = cases (λ (y : Core). Move s p x (Arrive b n t) (Arrived (record { number = x.counts.numbered; accepted = true })) y) (bearer_of (changed x.bearers b (behind q)) b).signal
+      kept e = cond_both (bearer_of (changed x.bearers b (behind q)) b).signal _ _ (λ (y : Core). Move s p x (Arrive b n t) (Arrived (record { number = x.counts.numbered; accepted = true })) y)
           (λ h. subst (λ (k : List Bearer). Move s p x (Arrive b n t) (Arrived (record { number = x.counts.numbered; accepted = true })) (charge s 60 (join b (with_board k))))
           (sym (changed_twice x.bearers b (behind q) after_disarm)) (signalled l e (sym signal_is ∙ h)))
           (λ h. stored l e (sym signal_is ∙ h))
@@ -123,12 +123,12 @@ module _ (s : RawSettings) (p : Batches) (x : Core) where
   begin_moves : (l : List ℕ) → x.listed ≡ l → x.grant ≡ None → x.clock.used < s.limit → x.hold ≡ 0 → any_left l ≡ true →
       Move s p x Step (Stepped (Begun (get_or l 0 0) (p.quota (get_or l 0 0) (length (waits x.bearers (get_or l 0 0))))))
       (charge s 80 (record x { listed = drop 1 l; grant = Some (record { bearer = get_or l 0 0; left = p.quota (get_or l 0 0) (length (waits x.bearers (get_or l 0 0))) }) }))
-  begin_moves [] e g u h a = untrue a
+  begin_moves [] e g u h a = cc a
   begin_moves (b ∷ rest) e g u h a = begun g e u h
 
   close_moves : (g : Grant) → x.grant ≡ Some g → g.left ≡ 0 → Moves Step (close s g x)
-  close_moves g e n = cases (Moves Step) (any_waiting (waits x.bearers g.bearer)) (λ _. rescheduled e n)
-      (λ h. cases (λ (y : Core). Move s p x Step (Stepped Completed) (record y { grant = None })) (is_open s x) (completed e (none_left _ h) n) (completed e (none_left _ h) n))
+  close_moves g e n = cond_both (any_waiting (waits x.bearers g.bearer)) _ _ (Moves Step) (λ _. rescheduled e n)
+      (λ h. cond_both (is_open s x) _ _ (λ (y : Core). Move s p x Step (Stepped Completed) (record y { grant = None })) (completed e (none_left _ h) n) (completed e (none_left _ h) n))
 
   take_moves : (g : Grant) (w : List Packet) → x.grant ≡ Some g → (g.left ≡ 0 → ⊥) → waits x.bearers g.bearer ≡ w → Moves Step (take_by s g (slice_get w 0) x)
   take_moves g [] e n h = emptied e h n
@@ -142,18 +142,18 @@ module _ (s : RawSettings) (p : Batches) (x : Core) where
       after room = cond room (record y { queue = x.queue ++ q ∷ [] }) (record y { counts = one_queue_full x.counts })
 
       marked : (room : Bool) → has_queue_room s x ≡ room → Move s p x Step (Stepped (Taken q.number room)) (high_marked s g (after room))
-      marked true r = cases (Move s p x Step (Stepped (Taken q.number true))) (leb s.high (length (x.queue ++ q ∷ []))) (λ _. taken {m = 0} {h = s.hold} e h n (omega arith) r) (λ _. taken {m = g.left - 1} {h = y.hold} e h n (omega arith) r)
-      marked false r = cases (Move s p x Step (Stepped (Taken q.number false))) (leb s.high (length x.queue)) (λ _. taken {m = 0} {h = s.hold} e h n (omega arith) r) (λ _. taken {m = g.left - 1} {h = y.hold} e h n (omega arith) r)
+      marked true r = cond_both (leb s.high (length (x.queue ++ q ∷ []))) _ _ (Move s p x Step (Stepped (Taken q.number true))) (λ _. taken {m = 0} {h = s.hold} e h n (omega arith) r) (λ _. taken {m = g.left - 1} {h = y.hold} e h n (omega arith) r)
+      marked false r = cond_both (leb s.high (length x.queue)) _ _ (Move s p x Step (Stepped (Taken q.number false))) (λ _. taken {m = 0} {h = s.hold} e h n (omega arith) r) (λ _. taken {m = g.left - 1} {h = y.hold} e h n (omega arith) r)
 
   serve_moves : (g : Grant) → x.grant ≡ Some g → Moves Step (serve s g x)
   unfolding serve
-  serve_moves g e = cases (Moves Step) (eqb g.left 0)
+  serve_moves g e = cond_both (eqb g.left 0) _ _ (Moves Step)
       (λ n. close_moves g e (eqb-true g.left 0 n))
       (λ n. take_moves g (waits x.bearers g.bearer) e (eqb-false g.left 0 n) refl)
 
   fetch_moves : (l : List Packet) → x.queue ≡ l → any_left l ≡ true →
       Move s p x Fetch (Fetched (get_or l 0 blank)) (record x { hold = cond (leb (length (drop 1 l)) s.low) 0 x.hold; queue = drop 1 l; out = x.out ++ (get_or l 0 blank).number ∷ [] })
-  fetch_moves [] e a = untrue a
+  fetch_moves [] e a = cc a
   fetch_moves (q ∷ rest) e a = fetched e
 
   -- a call with its checks

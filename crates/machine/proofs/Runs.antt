@@ -1,5 +1,5 @@
 -- What holds of every list of calls: an invariant of the entries so far and of the receiver, kept by whatever a call comes to.
-use Rattle.std.proofs.Common.{◌≡◌, ℕ, List, [], ◌∷◌, ◌++◌, Result, sym, refl, subst, append_assoc, append-nil, arith}
+use Rattle.std.proofs.Common.{◌≡◌, List, [], ◌∷◌, ◌++◌, Result, sym, refl, subst, append_assoc, append-nil}
 use Rattle.machine.specs.declared.answers.Answer.{Answer}
 use Rattle.machine.specs.declared.calls.Call.{Call}
 use Rattle.machine.specs.declared.calls.RawSettings.{RawSettings}
@@ -8,15 +8,6 @@ use Rattle.machine.specs.State.{Core, State, idle, running, Batches}
 use Rattle.machine.specs.Trace.{Entry, trace, end_of, Throughout}
 use Rattle.machine.specs.Laws.{OnceRunning}
 use Rattle.machine.proofs.Moved.{Happens, happens}
-
-same_head : {A : Type 0} (x y : A) (xs ys : List A) → x ∷ xs ≡ y ∷ ys → x ≡ y
-same_head x y xs ys e = cc
-
-same_tail : {A : Type 0} (x y : A) (xs ys : List A) → x ∷ xs ≡ y ∷ ys → xs ≡ ys
-same_tail x y xs ys e = cc
-
-no_cons : {A B : Type 0} (x : A) (xs : List A) → [] ≡ x ∷ xs → B
-no_cons x xs e = let z : ◌≡◌ {A = ℕ} 0 1 = cc in absurd (omega arith)
 
 -- one call, and what it came to
 abbrev pub made : State → Call → Result Answer Refusal → State → Entry
@@ -31,10 +22,10 @@ module _ (p : Batches) where
     pub goes_on : trace p e.after calls ≡ rest
 
   pub begins_with : (cs : List Call) (t : State) (e : Entry) (rest : List Entry) → trace p t cs ≡ e ∷ rest → Begins t e rest
-  begins_with [] t e rest h = no_cons e rest h
+  begins_with [] t e rest h = cc
   begins_with (c ∷ cs) t e rest h =
-      subst (λ (d : Entry). Begins t d rest) (same_head _ _ _ _ h)
-      (record { from = refl; comes = happens p c t; calls = cs; goes_on = same_tail _ _ _ _ h })
+      subst (λ (d : Entry). Begins t d rest) (cc)
+      (record { from = refl; comes = happens p c t; calls = cs; goes_on = cc })
 
   module _ (I : List Entry → State → Type 0)
       (keep : (es : List Entry) (t u : State) (c : Call) (r : Result Answer Refusal) → I es t → Happens p t c r u → I (es ++ made t c r u ∷ []) u) where

@@ -1,6 +1,6 @@
 -- Every call leaves all tidy. So no receiver is deaf, and none is loud between calls.
-use Rattle.std.proofs.Common.{◌≡◌, ℕ, zero, suc, ◌+◌, ◌<◌, ◌≤◌, Bool, true, false, cond, ◌&&◌, ◌||◌, eqb, ltb, leb, List, [], ◌∷◌, ◌++◌, length, drop, Some, None, Option, Result, sym, refl, ap, ◌∙◌, subst, ⊎_elim, arith}
-use Rattle.std.proofs.lemmas.Bool.{cases_lt, and_left, and_right, and_parts, and_from, or_parts, lt-ltb, leb-true, not-true}
+use Rattle.std.proofs.Common.{◌≡◌, ℕ, zero, suc, ◌+◌, ◌<◌, ◌≤◌, Bool, true, false, cond, ◌&&◌, eqb, ltb, leb, List, [], ◌∷◌, ◌++◌, length, drop, Some, None, Option, Result, sym, refl, ap, ◌∙◌, subst, ⊎_elim, arith}
+use Rattle.std.proofs.lemmas.Bool.{cases_lt, and_left, and_parts, and_from, or_parts, lt-ltb, leb-true, not-true}
 use Rattle.std.proofs.lemmas.List.{length-set, length-map, get_or-map, get_or_past}
 use Rattle.board.specs.Bearers.{Bearer, absent, bearer_of, changed, any_waiting, after_take, after_arm, after_disarm}
 use Rattle.machine.specs.declared.answers.Answer.{Answer}
@@ -12,36 +12,30 @@ use Rattle.machine.specs.Settings.{settings_checks}
 use Rattle.machine.specs.Calls.{next_packet}
 use Rattle.machine.specs.Machine.{fresh, waiting_checks}
 use Rattle.machine.specs.Laws.{times, Heard, Always, NeverDeaf, Quiet}
-use Rattle.machine.proofs.Basics.{tested, untrue, at_changed, on_changed, at_mapped, hit, miss, none_left}
-use Rattle.machine.proofs.Loads.{turns, load, Tidy, TidyCore, TidyState, times-append, free_turns}
-use Rattle.machine.proofs.Gate.{arm_armed, arm_quiet, arm_waiting, gate_tidy}
+use Rattle.machine.proofs.Basics.{tested, at_changed, on_changed, at_mapped, none_left}
+use Rattle.machine.proofs.Loads.{turns, load, Calm, calm_armed, calm_disarmed, Tidy, TidyCore, TidyState, times-append, free_turns}
+use Rattle.machine.proofs.Gate.{gate_tidy}
 use Rattle.machine.proofs.Moved.{behind, Passed, Move, lost, stored, signalled, begun, emptied, taken, rescheduled, completed, worked, fetched, finished, discarded, told, Happens, refused, asked_idle, configured, moved}
 use Rattle.machine.proofs.Runs.{throughout, if_running}
-
--- one or none, from the same test
-one : {s t : Bool} → s ≡ t → cond {A = ℕ} s 1 0 ≡ cond t 1 0
-one e = ap {B = ℕ} (λ v. cond v 1 0) e
 
 module _ {gate : Bool} {bs : List Bearer} {l : List ℕ} {g : Option Grant} (t : Tidy gate bs l g) where
   -- other turns of the same number
   relisted : (l' : List ℕ) (g' : Option Grant) → ((c : ℕ) → turns l' g' c ≡ turns l g c) → Tidy gate bs l' g'
   relisted l' g' same = record {
-    quiet = t.quiet;
-    empty = t.empty;
+    calm = t.calm;
     once = λ c. omega (arith, t.once c, same c);
     shut = t.shut;
     ready = λ o c i. omega (arith, t.ready o c i, same c);
   }
 
   -- a bearer touched without a change of its arming, under a grant on the same bearer
-  touched : (b : ℕ) (f : Bearer → Bearer) (g' : Option Grant) → (f (bearer_of bs b)).armed ≡ (bearer_of bs b).armed → (f (bearer_of bs b)).signal ≡ false →
-      ((f (bearer_of bs b)).armed ≡ true → (f (bearer_of bs b)).waiting ≡ []) → ((c : ℕ) → serves g' c ≡ serves g c) → Tidy gate (changed bs b f) l g'
-  touched b f g' a q w v = record {
-    quiet = λ c. on_changed (λ y. y.signal ≡ false) bs b c f q (t.quiet c);
-    empty = λ c. on_changed (λ y. y.armed ≡ true → y.waiting ≡ []) bs b c f w (t.empty c);
-    once = λ c. omega (arith, t.once c, one (armed c), one (v c));
+  touched : (b : ℕ) (f : Bearer → Bearer) (g' : Option Grant) → (f (bearer_of bs b)).armed ≡ (bearer_of bs b).armed → Calm (f (bearer_of bs b)) →
+      ((c : ℕ) → serves g' c ≡ serves g c) → Tidy gate (changed bs b f) l g'
+  touched b f g' a y v = record {
+    calm = λ c. on_changed Calm bs b c f y (t.calm c);
+    once = λ c. grind (arith, t.once c, armed c, v c);
     shut = λ o c. armed c ∙ t.shut o c;
-    ready = λ o c i. omega (arith, t.ready o c (omega (arith, length-set bs b (f (bearer_of bs b)))), one (armed c), one (v c));
+    ready = λ o c i. grind (arith, t.ready o c (omega (arith, length-set bs b (f (bearer_of bs b)))), armed c, v c);
   }
     where
       armed : (c : ℕ) → (bearer_of (changed bs b f) c).armed ≡ (bearer_of bs c).armed
@@ -50,8 +44,7 @@ module _ {gate : Bool} {bs : List Bearer} {l : List ℕ} {g : Option Grant} (t :
   -- an armed bearer disarmed and listed
   heard_tidy : (b : ℕ) (f : Bearer → Bearer) → b < length bs → (bearer_of bs b).armed ≡ true → Tidy gate (changed bs b (λ v. after_disarm (f v))) (l ++ b ∷ []) g
   heard_tidy b f i a = record {
-    quiet = λ c. on_changed (λ y. y.signal ≡ false) bs b c (λ v. after_disarm (f v)) refl (t.quiet c);
-    empty = λ c. on_changed (λ y. y.armed ≡ true → y.waiting ≡ []) bs b c (λ v. after_disarm (f v)) (λ e. untrue e) (t.empty c);
+    calm = λ c. on_changed Calm bs b c (λ v. after_disarm (f v)) (calm_disarmed (f (bearer_of bs b))) (t.calm c);
     once = λ c. omega (arith, t.once c, same c);
     shut = λ o c. on_changed (λ y. y.armed ≡ false) bs b c (λ v. after_disarm (f v)) refl (t.shut o c);
     ready = λ o c k. omega (arith, t.ready o c (omega (arith, length-set bs b (after_disarm (f (bearer_of bs b))))), same c);
@@ -59,50 +52,45 @@ module _ {gate : Bool} {bs : List Bearer} {l : List ℕ} {g : Option Grant} (t :
     where
       same : (c : ℕ) → load (changed bs b (λ v. after_disarm (f v))) (l ++ b ∷ []) g c ≡ load bs l g c
       same c = at_changed (λ y. cond y.armed 1 0 + turns (l ++ b ∷ []) g c ≡ load bs l g c) bs b c (λ v. after_disarm (f v))
-          (λ e _. subst (λ d. 0 + turns (l ++ b ∷ []) g d ≡ load bs l g d) (sym e) (omega (arith, times-append b l (b ∷ []), hit b b refl, one a)))
-          (λ k. omega (arith, times-append c l (b ∷ []), miss b c (λ e. omega (arith, k e))))
+          (λ e _. rw e (grind (arith, times-append)))
+          (λ k. grind (arith, times-append))
 
 -- the grant's bearer left alone, with the gate shut, or armed, with the gate open
 closed_tidy : {gate : Bool} {bs : List Bearer} {l : List ℕ} (h : Grant) → waits bs h.bearer ≡ [] → Tidy gate bs l (Some h) → (o : Bool) → gate ≡ o →
     Tidy gate (cond o (changed bs h.bearer (after_arm false)) bs) l None
 closed_tidy h w t false e = record {
-  quiet = t.quiet;
-  empty = t.empty;
+  calm = t.calm;
   once = λ c. omega (arith, t.once c);
   shut = t.shut;
-  ready = λ o. untrue (sym e ∙ o);
+  ready = λ o. cc (e, o);
 }
 closed_tidy {bs = bs} {l = l} h w t true e =
     let b : ℕ = h.bearer in
-    let armed = one (arm_armed (bearer_of bs b)) in
     record {
-      quiet = λ c. on_changed (λ y. y.signal ≡ false) bs b c (after_arm false) (arm_quiet (bearer_of bs b) (t.quiet b)) (t.quiet c);
-      empty = λ c. on_changed (λ y. y.armed ≡ true → y.waiting ≡ []) bs b c (after_arm false) (λ _. arm_waiting (bearer_of bs b) ∙ w) (t.empty c);
+      calm = λ c. on_changed Calm bs b c (after_arm false) (calm_armed (bearer_of bs b) (t.calm b).quiet w) (t.calm c);
       once = λ c. at_changed (λ y. cond y.armed 1 0 + turns l None c ≤ 1) bs b c (after_arm false)
-          (λ i _. subst (λ d. cond (after_arm false (bearer_of bs b)).armed 1 0 + turns l None d ≤ 1) (sym i) (omega (arith, armed, t.once b, hit b b refl)))
+          (λ i _. rw i (grind (arith, t.once b)))
           (λ _. omega (arith, t.once c));
-      shut = λ o. untrue (sym o ∙ e);
+      shut = λ o. cc (o, e);
       ready = λ o c k. at_changed (λ y. 1 ≤ cond y.armed 1 0 + turns l None c) bs b c (after_arm false)
-          (λ _ _. omega (arith, armed))
-          (λ m. let i : c < length bs = omega (arith, length-set bs b (after_arm false (bearer_of bs b))) in omega (arith, t.ready o c i, miss b c (λ q. omega (arith, m q))));
+          (λ _ _. grind arith)
+          (λ m. let i : c < length bs = omega (arith, length-set bs b (after_arm false (bearer_of bs b))) in grind (arith, t.ready o c i));
     }
-
-or_second : (x y : Bool) → x ≡ false → (x || y) ≡ true → y ≡ true
-or_second true y e h = untrue (sym e)
-or_second false y e h = h
 
 module _ (s : RawSettings) (p : Batches) (x : Core) (t : TidyCore (is_open s x) x) where
   granted : (g : Grant) → x.grant ≡ Some g → Tidy (is_open s x) x.bearers x.listed (Some g)
   granted g e = subst (λ (o : Option Grant). Tidy (is_open s x) x.bearers x.listed o) e t
 
   taken_tidy : (g h : Grant) → x.grant ≡ Some g → h.bearer ≡ g.bearer → Tidy (is_open s x) (changed x.bearers g.bearer after_take) x.listed (Some h)
-  taken_tidy g h e same = touched t g.bearer after_take (Some h) refl (and_left _ _ (t.quiet g.bearer)) (λ a. ap (drop 1) (t.empty g.bearer a))
+  taken_tidy g h e same = touched t g.bearer after_take (Some h) refl
+      (record { quiet = and_left _ _ (t.calm g.bearer).quiet; empty = λ a. ap (drop 1) ((t.calm g.bearer).empty a) })
       (λ c. ap (λ b. eqb b c) same ∙ sym (ap (λ (o : Option Grant). serves o c) e))
 
   pub move_tidy : (c : Call) (a : Answer) (y : Core) → Move s p x c a y → TidyCore (is_open s x) y
   move_tidy _ _ _ (lost l r) = t
-  move_tidy _ _ _ (stored {b = b} {n = n} {t = tag} l r h) = touched t b (behind (next_packet n tag x)) x.grant refl h (λ a. untrue (sym (or_parts (bearer_of x.bearers b).signal _ h).1 ∙ a)) (λ _. refl)
-  move_tidy _ _ _ (signalled {b = b} {n = n} {t = tag} l r h) = heard_tidy t b (behind (next_packet n tag x)) l (or_second (bearer_of x.bearers b).signal _ (t.quiet b) h)
+  move_tidy _ _ _ (stored {b = b} {n = n} {t = tag} l r h) = touched t b (behind (next_packet n tag x)) x.grant refl
+      (record { quiet = h; empty = λ a. cc ((or_parts (bearer_of x.bearers b).signal _ h).1, a) }) (λ _. refl)
+  move_tidy _ _ _ (signalled {b = b} {n = n} {t = tag} l r h) = heard_tidy t b (behind (next_packet n tag x)) l (cc ((t.calm b).quiet, h))
   move_tidy _ _ _ (begun {b = b} {rest = rest} e i u h) = relisted t rest _
       (λ c. omega (arith, ap (times c) i, ap {B = ℕ} (λ (o : Option Grant). cond (serves o c) 1 0) e))
   move_tidy _ _ _ (emptied {g = g} e w n) = taken_tidy g (record { bearer = g.bearer; left = 0 }) e refl
@@ -128,11 +116,10 @@ fresh_tidy s bs ranges empty =
     let some : 1 ≤ s.limit = leb-true 1 s.limit (and_parts (leb 1 s.limit) (leb s.limit s.period) ranges.1.0).0 in
     let gate : (ltb 0 s.limit && true) ≡ true = and_from (ltb 0 s.limit) true (lt-ltb 0 s.limit some) refl in
     record {
-      quiet = λ b. at_mapped (λ y. y.signal ≡ false) f bs b refl (and_right (any_waiting (waits bs b)) false refl);
-      empty = λ b. at_mapped (λ y. y.armed ≡ true → y.waiting ≡ []) f bs b (λ e. untrue e) (λ _. none_waits 0 bs b empty);
+      calm = λ b. at_mapped Calm f bs b (calm_disarmed absent) (calm_armed (after_disarm (bearer_of bs b)) refl (none_waits 0 bs b empty));
       once = λ b. at_mapped (λ y. cond y.armed 1 0 + turns [] None b ≤ 1) f bs b (omega arith) (omega arith);
-      shut = λ e. untrue (sym e ∙ gate);
-      ready = λ _ b i. omega (arith, one (ap (λ (v : Bearer). v.armed) (get_or-map f bs b absent absent (omega (arith, length-map bs f)))));
+      shut = λ e. cc (e, gate);
+      ready = λ _ b i. grind (arith, ap (λ (v : Bearer). v.armed) (get_or-map f bs b absent absent (omega (arith, length-map bs f))));
     }
 
 pub keeps_tidy : (p : Batches) (t u : State) (c : Call) (r : Result Answer Refusal) → TidyState t → Happens p t c r u → TidyState u
@@ -143,14 +130,14 @@ keeps_tidy p _ _ _ _ i (moved {s = s} {x = x} {y = y} {c = c} {a = a} m) = gate_
 
 tidy_heard : (s : RawSettings) (x : Core) → TidyCore (is_open s x) x → Heard s x
 tidy_heard s x t = record {
-  armed_empty = t.empty;
+  armed_empty = λ b. (t.calm b).empty;
   waiting_busy = λ o b w. tested (λ v. v ≡ true) (busy x b) (λ _. refl) (λ free. absurd (w (unheard o b free)));
 }
   where
     unheard : is_open s x ≡ true → (b : ℕ) → busy x b ≡ false → waits x.bearers b ≡ []
     unheard o b free =
         ⊎_elim
-        (λ (i : b < length x.bearers). t.empty b (tested (λ v. (1 ≤ cond v 1 0 + turns x.listed x.grant b) → v ≡ true) (bearer_of x.bearers b).armed (λ _ _. refl) (λ _ k. absurd (omega (arith, free_turns x b free))) (t.ready o b i)))
+        (λ (i : b < length x.bearers). (t.calm b).empty (tested (λ v. (1 ≤ cond v 1 0 + turns x.listed x.grant b) → v ≡ true) (bearer_of x.bearers b).armed (λ _ _. refl) (λ _ k. absurd (omega (arith, free_turns x b free))) (t.ready o b i)))
         (λ (i : length x.bearers ≤ b). ap (λ (v : Bearer). v.waiting) (get_or_past x.bearers b absent i))
         (cases_lt b (length x.bearers))
 
@@ -159,5 +146,5 @@ never_deaf p _ bs cs before after e = if_running TidyState tidy_heard _
     (throughout p (λ _ t. TidyState t) (λ _ t u c r i h. keeps_tidy p t u c r i h) (idle bs) tt cs before after e)
 
 pub quiet : Always Quiet
-quiet p _ bs cs before after e = if_running TidyState (λ s x t b. t.quiet b) _
+quiet p _ bs cs before after e = if_running TidyState (λ s x t b. (t.calm b).quiet) _
     (throughout p (λ _ t. TidyState t) (λ _ t u c r i h. keeps_tidy p t u c r i h) (idle bs) tt cs before after e)
