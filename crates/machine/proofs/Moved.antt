@@ -196,13 +196,8 @@ module _ (p : Batches) (bs : List Bearer) where
 
   idle_comes : (c : Call) → Happens p (idle bs) c (idle_call p c bs).0 (idle_call p c bs).1
   idle_comes (Configure s) = configure_comes s (first (configure_checks p s bs)) refl
-  idle_comes (Arrive b n t) = refused
-  idle_comes Step = refused
-  idle_comes (Work c) = refused
-  idle_comes Fetch = refused
-  idle_comes (Finish n) = refused
-  idle_comes (Discard n) = refused
   idle_comes Tell = asked_idle
+  idle_comes _ = refused
 
 pub happens : (p : Batches) (c : Call) (t : State) → Happens p t c (call p c t).0 (call p c t).1
 unfolding call

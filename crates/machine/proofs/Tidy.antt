@@ -1,6 +1,6 @@
 -- Every call leaves all tidy. So no receiver is deaf, and none is loud between calls.
 use Rattle.std.proofs.Common.{◌≡◌, ℕ, zero, suc, ◌+◌, ◌<◌, ◌≤◌, Bool, true, false, cond, ◌&&◌, eqb, ltb, leb, List, [], ◌∷◌, ◌++◌, length, drop, Some, None, Option, Result, sym, refl, ap, ◌∙◌, subst, ⊎_elim, arith}
-use Rattle.std.proofs.lemmas.Bool.{cases_lt, and_left, and_parts, and_from, or_parts, lt-ltb, leb-true, not-true}
+use Rattle.std.proofs.lemmas.Bool.{cases_lt, and_left, or_parts, true_from_ne_false, not-true}
 use Rattle.std.proofs.lemmas.List.{length-set, length-map, get_or-map, get_or_past}
 use Rattle.board.specs.Bearers.{Bearer, absent, bearer_of, changed, any_waiting, after_take, after_arm, after_disarm}
 use Rattle.machine.specs.declared.answers.Answer.{Answer}
@@ -11,11 +11,12 @@ use Rattle.machine.specs.State.{Grant, Core, State, idle, Batches, waits, serves
 use Rattle.machine.specs.Settings.{settings_checks}
 use Rattle.machine.specs.Calls.{next_packet}
 use Rattle.machine.specs.Machine.{fresh, waiting_checks}
-use Rattle.machine.specs.Laws.{times, Heard, Always, NeverDeaf, Quiet}
-use Rattle.machine.proofs.Basics.{tested, at_changed, on_changed, at_mapped, none_left}
+use Rattle.machine.specs.Trace.{Throughout}
+use Rattle.machine.specs.Laws.{times, Heard, Always, OnceRunning, NeverDeaf, Quiet}
+use Rattle.machine.proofs.Basics.{at_changed, on_changed, at_mapped, none_left}
 use Rattle.machine.proofs.Loads.{turns, load, Calm, calm_armed, calm_disarmed, Tidy, TidyCore, TidyState, times-append, free_turns}
 use Rattle.machine.proofs.Gate.{gate_tidy}
-use Rattle.machine.proofs.Moved.{behind, Passed, Move, lost, stored, signalled, begun, emptied, taken, rescheduled, completed, worked, fetched, finished, discarded, told, Happens, refused, asked_idle, configured, moved}
+use Rattle.machine.proofs.Moved.{behind, Passed, Move, stored, signalled, begun, emptied, taken, rescheduled, completed, Happens, refused, asked_idle, configured, moved}
 use Rattle.machine.proofs.Runs.{throughout, if_running}
 
 module _ {gate : Bool} {bs : List Bearer} {l : List ℕ} {g : Option Grant} (t : Tidy gate bs l g) where
@@ -87,7 +88,6 @@ module _ (s : RawSettings) (p : Batches) (x : Core) (t : TidyCore (is_open s x) 
       (λ c. ap (λ b. eqb b c) same ∙ sym (ap (λ (o : Option Grant). serves o c) e))
 
   pub move_tidy : (c : Call) (a : Answer) (y : Core) → Move s p x c a y → TidyCore (is_open s x) y
-  move_tidy _ _ _ (lost l r) = t
   move_tidy _ _ _ (stored {b = b} {n = n} {t = tag} l r h) = touched t b (behind (next_packet n tag x)) x.grant refl
       (record { quiet = h; empty = λ a. cc ((or_parts (bearer_of x.bearers b).signal _ h).1, a) }) (λ _. refl)
   move_tidy _ _ _ (signalled {b = b} {n = n} {t = tag} l r h) = heard_tidy t b (behind (next_packet n tag x)) l (cc ((t.calm b).quiet, h))
@@ -98,11 +98,7 @@ module _ (s : RawSettings) (p : Batches) (x : Core) (t : TidyCore (is_open s x) 
   move_tidy _ _ _ (rescheduled {g = g} e n) = relisted t (x.listed ++ g.bearer ∷ []) None
       (λ c. omega (arith, times-append c x.listed (g.bearer ∷ []), ap {B = ℕ} (λ (o : Option Grant). cond (serves o c) 1 0) e))
   move_tidy _ _ _ (completed {g = g} {o = o} e w n i) = closed_tidy g w (granted g e) o i
-  move_tidy _ _ _ (worked i j) = t
-  move_tidy _ _ _ (fetched i) = t
-  move_tidy _ _ _ (finished i) = t
-  move_tidy _ _ _ (discarded i) = t
-  move_tidy _ _ _ told = t
+  move_tidy _ _ _ _ = t
 
 -- a receiver just configured: nothing waits, all are armed, and the gate is open
 none_waits : (i : ℕ) (bs : List Bearer) (b : ℕ) → Passed (waiting_checks i bs) → waits bs b ≡ []
@@ -113,8 +109,8 @@ none_waits i (x ∷ bs) (suc b) h = none_waits (i + 1) bs b h.1
 fresh_tidy : (s : RawSettings) (bs : List Bearer) → Passed (settings_checks s) → Passed (waiting_checks 0 bs) → TidyCore (is_open s (fresh bs)) (fresh bs)
 fresh_tidy s bs ranges empty =
     let f : Bearer → Bearer = λ x. after_arm false (after_disarm x) in
-    let some : 1 ≤ s.limit = leb-true 1 s.limit (and_parts (leb 1 s.limit) (leb s.limit s.period) ranges.1.0).0 in
-    let gate : (ltb 0 s.limit && true) ≡ true = and_from (ltb 0 s.limit) true (lt-ltb 0 s.limit some) refl in
+    let range : (leb 1 s.limit && leb s.limit s.period) ≡ true = ranges.1.0 in
+    let gate : (ltb 0 s.limit && true) ≡ true = grind arith in
     record {
       calm = λ b. at_mapped Calm f bs b (calm_disarmed absent) (calm_armed (after_disarm (bearer_of bs b)) refl (none_waits 0 bs b empty));
       once = λ b. at_mapped (λ y. cond y.armed 1 0 + turns [] None b ≤ 1) f bs b (omega arith) (omega arith);
@@ -131,20 +127,24 @@ keeps_tidy p _ _ _ _ i (moved {s = s} {x = x} {y = y} {c = c} {a = a} m) = gate_
 tidy_heard : (s : RawSettings) (x : Core) → TidyCore (is_open s x) x → Heard s x
 tidy_heard s x t = record {
   armed_empty = λ b. (t.calm b).empty;
-  waiting_busy = λ o b w. tested (λ v. v ≡ true) (busy x b) (λ _. refl) (λ free. absurd (w (unheard o b free)));
+  waiting_busy = λ o b w. true_from_ne_false (busy x b) (λ free. w (unheard o b free));
 }
   where
     unheard : is_open s x ≡ true → (b : ℕ) → busy x b ≡ false → waits x.bearers b ≡ []
     unheard o b free =
         ⊎_elim
-        (λ (i : b < length x.bearers). (t.calm b).empty (tested (λ v. (1 ≤ cond v 1 0 + turns x.listed x.grant b) → v ≡ true) (bearer_of x.bearers b).armed (λ _ _. refl) (λ _ k. absurd (omega (arith, free_turns x b free))) (t.ready o b i)))
+        (λ (i : b < length x.bearers). (t.calm b).empty (grind (arith, t.ready o b i, free_turns x b free)))
         (λ (i : length x.bearers ≤ b). ap (λ (v : Bearer). v.waiting) (get_or_past x.bearers b absent i))
         (cases_lt b (length x.bearers))
 
-pub never_deaf : Always NeverDeaf
-never_deaf p _ bs cs before after e = if_running TidyState tidy_heard _
+-- what is true of every tidy receiver
+always_tidy : {P : RawSettings → Core → Type 0} → ((s : RawSettings) (x : Core) → TidyCore (is_open s x) x → P s x) →
+    Always (λ p bs es. Throughout (idle bs) es (λ _ t. OnceRunning t P))
+always_tidy f p _ bs cs before after e = if_running TidyState f _
     (throughout p (λ _ t. TidyState t) (λ _ t u c r i h. keeps_tidy p t u c r i h) (idle bs) tt cs before after e)
 
+pub never_deaf : Always NeverDeaf
+never_deaf = always_tidy tidy_heard
+
 pub quiet : Always Quiet
-quiet p _ bs cs before after e = if_running TidyState (λ s x t b. (t.calm b).quiet) _
-    (throughout p (λ _ t. TidyState t) (λ _ t u c r i h. keeps_tidy p t u c r i h) (idle bs) tt cs before after e)
+quiet = always_tidy (λ s x t b. (t.calm b).quiet)

@@ -1,12 +1,12 @@
 -- Laws of every list of calls, made on a receiver just put up. Those are proved that the contract of `laws` names. Each law speaks of a policy, of the bearers that the board showed then, and of a trace.
 use Rattle.std.specs.Prelude.{◌≡◌, ℕ, ◌+◌, ◌<◌, ◌≤◌, Bool, true, false, cond, ◌≢◌, List, [], ◌∷◌, ◌++◌, map, length, Some, None, Ok, Err, Option, Result, ◌==◌, nat_lt, slice_index}
-use Rattle.std.specs.List.{slice_get}
+use Rattle.std.specs.List.{slice_get, flat_map, sum_by}
 use Rattle.board.specs.declared.packets.Packet.{Packet}
 use Rattle.board.specs.Bearers.{Bearer, bearer_of}
 use Rattle.machine.specs.declared.answers.Answer.{Answer}
-use Rattle.machine.specs.declared.answers.Answer.TheVariants.{Configured, Arrived, Stepped, Worked, Fetched, Finished, Discarded, Told}
+use Rattle.machine.specs.declared.answers.Answer.TheVariants.{Configured, Arrived, Worked, Fetched, Finished, Discarded, Told}
 use Rattle.machine.specs.declared.answers.Progress.{Progress}
-use Rattle.machine.specs.declared.answers.Progress.TheVariants.{Begun, Empty, Taken, Rescheduled, Completed}
+use Rattle.machine.specs.declared.answers.Progress.TheVariants.{Begun, Taken}
 use Rattle.machine.specs.declared.answers.Report.{Report}
 use Rattle.machine.specs.declared.calls.Call.{Call}
 use Rattle.machine.specs.declared.calls.Call.TheVariants.{Configure, Arrive, Step, Work, Fetch, Finish, Discard, Tell}
@@ -59,14 +59,8 @@ closed_in (running s x) = x.clock.closed
 
 -- the cycles that an accepted call of work offered
 abbrev pub cycles_of : Call → ℕ
-cycles_of (Configure s) = 0
-cycles_of (Arrive b n t) = 0
-cycles_of Step = 0
 cycles_of (Work c) = c
-cycles_of Fetch = 0
-cycles_of (Finish n) = 0
-cycles_of (Discard n) = 0
-cycles_of Tell = 0
+cycles_of _ = 0
 
 abbrev pub offered_by : Call → Result Answer Refusal → ℕ
 offered_by c (Err r) = 0
@@ -74,8 +68,7 @@ offered_by c (Ok a) = cycles_of c
 
 -- the cycles offered while k periods were closed
 abbrev pub offered_in : ℕ → List Entry → ℕ
-offered_in k [] = 0
-offered_in k (e ∷ es) = cond (closed_in e.before == k) (offered_by e.asked e.answered) 0 + offered_in k es
+offered_in k = sum_by (λ (e : Entry). cond (closed_in e.before == k) (offered_by e.asked e.answered) 0)
 
 -- THE APPLICATION'S SHARE. Every closed period offered the application at least P - N - B + 1 cycles.
 abbrev pub Share : Law
@@ -93,20 +86,15 @@ AlwaysWaiting b (e ∷ es) = Waiting b e.after × AlwaysWaiting b es
 
 -- the grants begun on a bearer
 abbrev pub begun_by : ℕ → Option Progress → ℕ
-begun_by b None = 0
 begun_by b (Some (Begun c q)) = cond (c == b) 1 0
-begun_by b (Some Empty) = 0
-begun_by b (Some (Taken n q)) = 0
-begun_by b (Some Rescheduled) = 0
-begun_by b (Some Completed) = 0
+begun_by b _ = 0
 
 abbrev pub begun_on : ℕ → Result Answer Refusal → ℕ
 begun_on b (Err r) = 0
 begun_on b (Ok a) = begun_by b (progress_in a)
 
 abbrev pub begins : ℕ → List Entry → ℕ
-begins b [] = 0
-begins b (e ∷ es) = begun_on b e.answered + begins b es
+begins b = sum_by (λ (e : Entry). begun_on b e.answered)
 
 -- EQUAL TURNS. Wherever the trace is cut into before, stretch and after, and two bearers have packets at the stretch's start and after each of its calls,
 -- the grants begun on the one in the stretch are at most one more than those on the other.
@@ -135,11 +123,8 @@ LedgerAgrees p bs es = Throughout (idle bs) es (λ before t. OnceRunning t (λ s
 -- the column last begun, queued where the queue's column has room; the queue's front; a number that is out; the counts.
 abbrev pub TrueStep : Option Progress → Ledger → Type 0
 TrueStep None l = ⊥
-TrueStep (Some (Begun b q)) l = Unit {0}
-TrueStep (Some Empty) l = Unit {0}
 TrueStep (Some (Taken n queued)) l = (slice_get (column l l.serving) 0 ≡ Some n) × (queued ≡ queue_room l)
-TrueStep (Some Rescheduled) l = Unit {0}
-TrueStep (Some Completed) l = Unit {0}
+TrueStep (Some did) l = Unit {0}
 
 abbrev pub TrueAnswer : List ℕ → Call → Answer → Ledger → Type 0
 TrueAnswer depths (Configure s) a l = a ≡ Configured
@@ -159,14 +144,13 @@ abbrev pub TrueAnswers : Law
 TrueAnswers p bs es =
     (before after : List Entry) (e : Entry) → es ≡ before ++ e ∷ after → Truly (depths_of bs) e.asked e.answered (ledger bs before)
 
--- how often a number stands in a list, and in a list of lists
+-- how often a number stands in a list (by recursion: the proofs' tactics find nothing where it is std's `count_by`, a fold), and in a list of lists
 abbrev pub times : ℕ → List ℕ → ℕ
 times n [] = 0
 times n (m ∷ ms) = cond (m == n) 1 0 + times n ms
 
 abbrev pub times_in_all : ℕ → List (List ℕ) → ℕ
-times_in_all n [] = 0
-times_in_all n (ms ∷ rest) = times n ms + times_in_all n rest
+times_in_all n = sum_by (times n)
 
 -- how often a number stands in all the columns together
 abbrev pub places : ℕ → Columns → ℕ
@@ -181,47 +165,27 @@ OnePlace p bs es =
 
 -- the numbers fetched, and those that arrived on a bearer, in order
 abbrev pub fetched_by : Answer → List ℕ
-fetched_by Configured = []
-fetched_by (Arrived a) = []
-fetched_by (Stepped did) = []
-fetched_by Worked = []
 fetched_by (Fetched q) = q.number ∷ []
-fetched_by Finished = []
-fetched_by Discarded = []
-fetched_by (Told r) = []
+fetched_by _ = []
 
 abbrev pub arrived_by : Answer → List ℕ
-arrived_by Configured = []
 arrived_by (Arrived a) = a.number ∷ []
-arrived_by (Stepped did) = []
-arrived_by Worked = []
-arrived_by (Fetched q) = []
-arrived_by Finished = []
-arrived_by Discarded = []
-arrived_by (Told r) = []
+arrived_by _ = []
 
 -- whether a call is an arrival on a bearer
 abbrev pub comes_on : ℕ → Call → Bool
-comes_on b (Configure s) = false
 comes_on b (Arrive c n t) = c == b
-comes_on b Step = false
-comes_on b (Work c) = false
-comes_on b Fetch = false
-comes_on b (Finish n) = false
-comes_on b (Discard n) = false
-comes_on b Tell = false
+comes_on b _ = false
 
 abbrev pub if_accepted : (Answer → List ℕ) → Result Answer Refusal → List ℕ
 if_accepted f (Err r) = []
 if_accepted f (Ok a) = f a
 
 abbrev pub fetches : List Entry → List ℕ
-fetches [] = []
-fetches (e ∷ es) = if_accepted fetched_by e.answered ++ fetches es
+fetches = flat_map (λ (e : Entry). if_accepted fetched_by e.answered)
 
 abbrev pub arrivals : ℕ → List Entry → List ℕ
-arrivals b [] = []
-arrivals b (e ∷ es) = cond (comes_on b e.asked) (if_accepted arrived_by e.answered) [] ++ arrivals b es
+arrivals b = flat_map (λ (e : Entry). cond (comes_on b e.asked) (if_accepted arrived_by e.answered) [])
 
 -- ARRIVAL ORDER. Of two packets fetched, both of which arrived on one bearer, the one fetched first has the smaller number: it arrived first.
 abbrev pub ArrivalOrder : Law

@@ -2,12 +2,12 @@
 use Rattle.std.specs.Prelude.{ℕ, ◌+◌, Bool, true, false, cond, List, [], ◌∷◌, ◌++◌, map, length, take, drop, replicate, Some, None, Ok, Err, fold, Option, Result, nat_lt, slice_index, slice_index_or, slice_set}
 use Rattle.board.specs.Bearers.{Bearer}
 use Rattle.machine.specs.declared.answers.Answer.{Answer}
-use Rattle.machine.specs.declared.answers.Answer.TheVariants.{Configured, Arrived, Stepped, Worked, Fetched, Finished, Discarded, Told}
+use Rattle.machine.specs.declared.answers.Answer.TheVariants.{Stepped}
 use Rattle.machine.specs.declared.answers.Progress.{Progress}
-use Rattle.machine.specs.declared.answers.Progress.TheVariants.{Begun, Empty, Taken, Rescheduled, Completed}
+use Rattle.machine.specs.declared.answers.Progress.TheVariants.{Begun, Taken}
 use Rattle.machine.specs.declared.answers.Counts.{Counts}
 use Rattle.machine.specs.declared.calls.Call.{Call}
-use Rattle.machine.specs.declared.calls.Call.TheVariants.{Configure, Arrive, Step, Work, Fetch, Finish, Discard, Tell}
+use Rattle.machine.specs.declared.calls.Call.TheVariants.{Configure, Arrive, Step, Fetch, Finish, Discard}
 use Rattle.machine.specs.declared.refusals.Refusal.{Refusal}
 use Rattle.machine.specs.Calls.{without}
 use Rattle.machine.specs.Trace.{Entry}
@@ -85,33 +85,23 @@ queue_room l = nat_lt (length l.columns.queue) l.size
 
 -- what a step did, if the answer is a step's
 abbrev pub progress_in : Answer → Option Progress
-progress_in Configured = None
-progress_in (Arrived a) = None
 progress_in (Stepped did) = Some did
-progress_in Worked = None
-progress_in (Fetched q) = None
-progress_in Finished = None
-progress_in Discarded = None
-progress_in (Told r) = None
+progress_in _ = None
 
 abbrev pub stepped : Option Progress → Ledger → Ledger
-stepped None l = l
 stepped (Some (Begun b q)) l = record l { serving = b }
-stepped (Some Empty) l = l
 stepped (Some (Taken n q)) l = record l { columns = taken_from (queue_room l) l.serving l.columns }
-stepped (Some Rescheduled) l = l
-stepped (Some Completed) l = l
+stepped _ l = l
 
 -- an accepted call moves numbers; a refused one moves nothing
 abbrev pub accepted : List ℕ → Call → Answer → Ledger → Ledger
 accepted depths (Configure s) a l = record l { size = s.size }
 accepted depths (Arrive b n t) a l = arrives (column_room depths l b) b l
 accepted depths Step a l = stepped (progress_in a) l
-accepted depths (Work c) a l = l
 accepted depths Fetch a l = record l { columns = handed_out l.columns }
 accepted depths (Finish n) a l = record l { columns = spent true n l.columns }
 accepted depths (Discard n) a l = record l { columns = spent false n l.columns }
-accepted depths Tell a l = l
+accepted depths _ a l = l
 
 abbrev pub told : List ℕ → Call → Result Answer Refusal → Ledger → Ledger
 told depths c (Err r) l = l

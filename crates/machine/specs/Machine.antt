@@ -47,13 +47,10 @@ configure_checks p s bs = settings_checks s ++ (waiting_checks 0 bs ++ (nat_le (
 
 abbrev pub idle_call : Batches → Call → List Bearer → Result Answer Refusal × State
 idle_call p (Configure s) bs = unless (first (configure_checks p s bs)) (idle bs) (Configured, running s (fresh bs))
-idle_call p (Arrive b n t) bs = (Err NotConfigured, idle bs)
-idle_call p Step bs = (Err NotConfigured, idle bs)
-idle_call p (Work c) bs = (Err NotConfigured, idle bs)
-idle_call p Fetch bs = (Err NotConfigured, idle bs)
 idle_call p (Finish n) bs = (Err NotOut, idle bs)
 idle_call p (Discard n) bs = (Err NotOut, idle bs)
 idle_call p Tell bs = (Ok (Told (record { counts = no_counts; closed = 0; last = None })), idle bs)
+idle_call p _ bs = (Err NotConfigured, idle bs)
 
 -- Configured. The checks of each call, in their order.
 abbrev pub not_retired : Core → Check

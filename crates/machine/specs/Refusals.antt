@@ -35,18 +35,8 @@ setting_place Hold = 6
 -- what is at fault, or 0
 abbrev pub place_of : Refusal → ℕ
 place_of (BadSetting setting) = setting_place setting
-place_of NoShare = 0
 place_of (NotShown b) = b
 place_of (BadLength n) = n
-place_of BadWork = 0
-place_of NotConfigured = 0
-place_of AlreadyConfigured = 0
 place_of (PacketWaits b) = b
-place_of Retired = 0
-place_of LimitUsed = 0
-place_of OnHold = 0
-place_of NoneListed = 0
 place_of (PastPeriod left) = left
-place_of NoneQueued = 0
-place_of AllOut = 0
-place_of NotOut = 0
+place_of _ = 0

@@ -1,5 +1,6 @@
 -- What a receiver holds.
-use Rattle.std.specs.Prelude.{ℕ, Bool, false, ◌&&◌, ◌||◌, List, [], ◌∷◌, Some, None, Option, ◌==◌, nat_lt}
+use Rattle.std.specs.Prelude.{ℕ, Bool, false, ◌&&◌, ◌||◌, List, Some, None, Option, ◌==◌, nat_lt}
+use Rattle.std.specs.List.{list_any}
 use Rattle.board.specs.declared.packets.Packet.{Packet}
 use Rattle.board.specs.Bearers.{Bearer, bearer_of}
 use Rattle.machine.specs.declared.answers.Counts.{Counts}
@@ -46,8 +47,7 @@ waits bs b = (bearer_of bs b).waiting
 
 -- whether a number is in a list
 abbrev pub holds : ℕ → List ℕ → Bool
-holds n [] = false
-holds n (m ∷ ms) = m == n || holds n ms
+holds n = list_any (λ m. m == n)
 
 -- whether a grant serves a bearer
 abbrev pub serves : Option Grant → ℕ → Bool
