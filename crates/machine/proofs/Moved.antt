@@ -1,7 +1,7 @@
 -- What a call comes to: it is refused, it configures, or it is one of the moves below. Every law is shown by these cases.
 use Rattle.std.proofs.Common.{◌≡◌, ℕ, ◌+◌, ◌-◌, ◌<◌, ◌≤◌, Bool, true, false, cond, ◌||◌, eqb, leb, List, [], ◌∷◌, ◌++◌, length, get_or, drop, Some, None, Ok, Err, Option, Result, sym, refl, ap, ◌∙◌, subst, arith}
 use Rattle.std.specs.List.{slice_get}
-use Rattle.std.proofs.lemmas.Bool.{cond_both, ltb-true, leb-true, eqb-true, eqb-false, and_parts}
+use Rattle.std.proofs.lemmas.Bool.{cond_both, cond-true, cond-false, ltb-true, leb-true, eqb-true, eqb-false, and_parts}
 use Rattle.board.specs.declared.packets.Packet.{Packet}
 use Rattle.board.specs.Bearers.{Bearer, bearer_of, changed, has_room, any_waiting, after_offer, after_arm, after_disarm}
 use Rattle.board.specs.Costs.{cost_of_length}
@@ -92,13 +92,15 @@ module _ (s : RawSettings) (p : Batches) (x : Core) where
   arrive_moves : (b n t : ℕ) → b < length x.bearers → Moves (Arrive b n t) (arrive s b n t x)
   unfolding arrive
   arrive_moves b n t l =
-      tested (λ room. Move s p x (Arrive b n t) (Arrived (record { number = x.counts.numbered; accepted = room })) (after room (changed x.bearers b (after_offer q))))
-      (has_room v)
-      (λ e. subst (λ (k : List Bearer). Move s p x (Arrive b n t) (Arrived (record { number = x.counts.numbered; accepted = true })) (after true k))
-      (ap (λ (w : Bearer). changed x.bearers b (λ _. w)) (sym (ap (λ k. cond k (behind q v) v) e))) (kept e))
-      (λ e. subst (λ (k : List Bearer). Move s p x (Arrive b n t) (Arrived (record { number = x.counts.numbered; accepted = false })) (after false k))
-      (sym (changed_same x.bearers b (after_offer q) (ap (λ k. cond k (behind q v) v) e))) (lost l e))
+      tested (λ room. Arrives room (after room (changed x.bearers b (after_offer q)))) (has_room v)
+      (λ e. subst (λ (k : List Bearer). Arrives true (after true k))
+      (ap (λ (w : Bearer). changed x.bearers b (λ _. w)) (sym (cond-true (has_room v) (behind q v) v e))) (kept e))
+      (λ e. subst (λ (k : List Bearer). Arrives false (after false k))
+      (sym (changed_same x.bearers b (after_offer q) (cond-false (has_room v) (behind q v) v e))) (lost l e))
     where
+      Arrives : Bool → Core → Type 0
+      Arrives room y = Move s p x (Arrive b n t) (Arrived (record { number = x.counts.numbered; accepted = room })) y
+
       q : Packet
       q = next_packet n t x
 
@@ -114,9 +116,9 @@ module _ (s : RawSettings) (p : Batches) (x : Core) where
       signal_is : (bearer_of (changed x.bearers b (behind q)) b).signal ≡ (v.signal || v.armed)
       signal_is = ap (λ (w : Bearer). w.signal) (bearer_changed x.bearers b (behind q) l)
 
-      kept : has_room v ≡ true → Move s p x (Arrive b n t) (Arrived (record { number = x.counts.numbered; accepted = true })) (after true (changed x.bearers b (behind q)))
-      kept e = cond_both (bearer_of (changed x.bearers b (behind q)) b).signal _ _ (λ (y : Core). Move s p x (Arrive b n t) (Arrived (record { number = x.counts.numbered; accepted = true })) y)
-          (λ h. subst (λ (k : List Bearer). Move s p x (Arrive b n t) (Arrived (record { number = x.counts.numbered; accepted = true })) (charge s 60 (join b (with_board k))))
+      kept : has_room v ≡ true → Arrives true (after true (changed x.bearers b (behind q)))
+      kept e = cond_both (bearer_of (changed x.bearers b (behind q)) b).signal _ _ (Arrives true)
+          (λ h. subst (λ (k : List Bearer). Arrives true (charge s 60 (join b (with_board k))))
           (sym (changed_twice x.bearers b (behind q) after_disarm)) (signalled l e (sym signal_is ∙ h)))
           (λ h. stored l e (sym signal_is ∙ h))
 
@@ -132,18 +134,27 @@ module _ (s : RawSettings) (p : Batches) (x : Core) where
 
   take_moves : (g : Grant) (w : List Packet) → x.grant ≡ Some g → (g.left ≡ 0 → ⊥) → waits x.bearers g.bearer ≡ w → Moves Step (take_by s g (slice_get w 0) x)
   take_moves g [] e n h = emptied e h n
-  take_moves g (q ∷ rest) e n h =
-      tested (λ room. Move s p x Step (Stepped (Taken q.number room)) (high_marked s g (after room))) (has_queue_room s x) (marked true) (marked false)
+  take_moves g (q ∷ rest) e n h = tested (λ room. Takes room (high_marked s g (after room))) (has_queue_room s x) (marked true) (marked false)
     where
+      Takes : Bool → Core → Type 0
+      Takes room z = Move s p x Step (Stepped (Taken q.number room)) z
+
       y : Core
       y = paid s g q x
 
       after : Bool → Core
       after room = cond room (record y { queue = x.queue ++ q ∷ [] }) (record y { counts = one_queue_full x.counts })
 
-      marked : (room : Bool) → has_queue_room s x ≡ room → Move s p x Step (Stepped (Taken q.number room)) (high_marked s g (after room))
-      marked true r = cond_both (leb s.high (length (x.queue ++ q ∷ []))) _ _ (Move s p x Step (Stepped (Taken q.number true))) (λ _. taken {m = 0} {h = s.hold} e h n (omega arith) r) (λ _. taken {m = g.left - 1} {h = y.hold} e h n (omega arith) r)
-      marked false r = cond_both (leb s.high (length x.queue)) _ _ (Move s p x Step (Stepped (Taken q.number false))) (λ _. taken {m = 0} {h = s.hold} e h n (omega arith) r) (λ _. taken {m = g.left - 1} {h = y.hold} e h n (omega arith) r)
+      -- at the high mark, and below it
+      stopped : (room : Bool) → has_queue_room s x ≡ room → Takes room (took s g q 0 s.hold room x)
+      stopped room r = taken e h n (omega arith) r
+
+      goes_on : (room : Bool) → has_queue_room s x ≡ room → Takes room (took s g q (g.left - 1) y.hold room x)
+      goes_on room r = taken e h n (omega arith) r
+
+      marked : (room : Bool) → has_queue_room s x ≡ room → Takes room (high_marked s g (after room))
+      marked true r = cond_both (leb s.high (length (x.queue ++ q ∷ []))) _ _ (Takes true) (λ _. stopped true r) (λ _. goes_on true r)
+      marked false r = cond_both (leb s.high (length x.queue)) _ _ (Takes false) (λ _. stopped false r) (λ _. goes_on false r)
 
   serve_moves : (g : Grant) → x.grant ≡ Some g → Moves Step (serve s g x)
   unfolding serve
