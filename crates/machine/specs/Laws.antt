@@ -144,7 +144,7 @@ abbrev pub TrueAnswers : Law
 TrueAnswers p bs es =
     (before after : List Entry) (e : Entry) → es ≡ before ++ e ∷ after → Truly (depths_of bs) e.asked e.answered (ledger bs before)
 
--- how often a number stands in a list (by recursion: the proofs' tactics find nothing where it is std's `count_by`, a fold), and in a list of lists
+-- how often a number stands in a list, and in a list of lists; the first by recursion, since `grind` does not look into `count_by`, which is a fold
 abbrev pub times : ℕ → List ℕ → ℕ
 times n [] = 0
 times n (m ∷ ms) = cond (m == n) 1 0 + times n ms
