@@ -1,4 +1,5 @@
-ghost use Rattle.board.specs.Pairs.{both, Stands};
+ghost use Rattle.std.specs.Prelude.{◌≡◌, ⊤};
+ghost use Rattle.board.specs.Pairs.{both, Stands, Called};
 
 use crate::boards::Board;
 use crate::packets::Packet;
@@ -10,24 +11,65 @@ const MOST_BEARERS: usize = 8;
 #[derive(Drop)]
 pub struct Pair<A, B>(pub A, pub B);
 
-/// Where a bearer of a pair stands, by its number there.
+/// The board of a pair that shows a bearer, and the bearer's number there.
 enum Side {
     First(usize),
     Second(usize),
-    Neither,
 }
 
 impl<A: Board, B: Board> Pair<A, B> {
-    fn side(&self, bearer: usize) -> Side
+    fn side(&self, bearer: usize) -> Option<Side>
         ensures value { Stands (A.Board.bearers self.now.0) (B.Board.bearers self.now.1) bearer result }
     {
         let first = self.0.size();
         if bearer < first {
-            Side::First(bearer)
+            Some(Side::First(bearer))
         } else if bearer < MOST_BEARERS {
-            Side::Second(bearer - first)
+            Some(Side::Second(bearer - first))
         } else {
-            Side::Neither
+            None
+        }
+    }
+
+    /// Asks the board that shows the bearer.
+    fn ask<R, F: FnOnce(&A, usize) -> R, G: FnOnce(&B, usize) -> R>(
+        &self,
+        bearer: usize,
+        first: F,
+        second: G,
+    ) -> Option<R>
+        requires first { F.IsAlwaysCallable first }
+        requires second { G.IsAlwaysCallable second }
+        ensures value { (s : _) × Stands (A.Board.bearers self.now.0) (B.Board.bearers self.now.1) bearer s × Called
+            (λ k r. (p : _) × (p.now ≡ self.now.0) × F.post first p k r)
+            (λ k r. (p : _) × (p.now ≡ self.now.1) × G.post second p k r)
+            ⊤ result s }
+    {
+        match self.side(bearer) {
+            Some(Side::First(b)) => Some(first(&self.0, b)),
+            Some(Side::Second(b)) => Some(second(&self.1, b)),
+            None => None,
+        }
+    }
+
+    /// Calls the board that shows the bearer.
+    fn on<R, F: FnOnce(&mut A, usize) -> R, G: FnOnce(&mut B, usize) -> R>(
+        &mut self,
+        bearer: usize,
+        first: F,
+        second: G,
+    ) -> Option<R>
+        requires first { F.IsAlwaysCallable first }
+        requires second { G.IsAlwaysCallable second }
+        ensures value { (s : _) × Stands (A.Board.bearers self.old.0) (B.Board.bearers self.old.1) bearer s × Called
+            (λ k r. (p : _) × (q : _) × (p.now ≡ self.old.0) × F.post first p k r q × (q.now ≡ self.new.0) × (self.old.1 ≡ self.new.1))
+            (λ k r. (p : _) × (q : _) × (p.now ≡ self.old.1) × G.post second p k r q × (q.now ≡ self.new.1) × (self.old.0 ≡ self.new.0))
+            (self.old ≡ self.new) result s }
+    {
+        match self.side(bearer) {
+            Some(Side::First(b)) => Some(first(&mut self.0, b)),
+            Some(Side::Second(b)) => Some(second(&mut self.1, b)),
+            None => None,
         }
     }
 }
@@ -40,66 +82,35 @@ impl<A: Board, B: Board> Board for Pair<A, B> {
     }
 
     fn depth(&self, bearer: usize) -> usize {
-        match self.side(bearer) {
-            Side::First(b) => self.0.depth(b),
-            Side::Second(b) => self.1.depth(b),
-            Side::Neither => 0,
-        }
+        self.ask(bearer, A::depth, B::depth).unwrap_or(0)
     }
 
     fn cost(&self, bearer: usize) -> u32 {
-        match self.side(bearer) {
-            Side::First(b) => self.0.cost(b),
-            Side::Second(b) => self.1.cost(b),
-            Side::Neither => 0,
-        }
+        self.ask(bearer, A::cost, B::cost).unwrap_or(0)
     }
 
     fn waiting(&self, bearer: usize) -> usize {
-        match self.side(bearer) {
-            Side::First(b) => self.0.waiting(b),
-            Side::Second(b) => self.1.waiting(b),
-            Side::Neither => 0,
-        }
+        self.ask(bearer, A::waiting, B::waiting).unwrap_or(0)
     }
 
     fn signal(&self, bearer: usize) -> bool {
-        match self.side(bearer) {
-            Side::First(b) => self.0.signal(b),
-            Side::Second(b) => self.1.signal(b),
-            Side::Neither => false,
-        }
+        self.ask(bearer, A::signal, B::signal).unwrap_or(false)
     }
 
     fn offer(&mut self, bearer: usize, packet: Packet) -> bool {
-        match self.side(bearer) {
-            Side::First(b) => self.0.offer(b, packet),
-            Side::Second(b) => self.1.offer(b, packet),
-            Side::Neither => false,
-        }
+        self.on(bearer, |a, b| a.offer(b, packet), |a, b| a.offer(b, packet))
+            .unwrap_or(false)
     }
 
     fn take(&mut self, bearer: usize) -> Option<Packet> {
-        match self.side(bearer) {
-            Side::First(b) => self.0.take(b),
-            Side::Second(b) => self.1.take(b),
-            Side::Neither => None,
-        }
+        self.on(bearer, A::take, B::take)?
     }
 
     fn arm(&mut self, bearer: usize) {
-        match self.side(bearer) {
-            Side::First(b) => self.0.arm(b),
-            Side::Second(b) => self.1.arm(b),
-            Side::Neither => {}
-        }
+        self.on(bearer, A::arm, B::arm);
     }
 
     fn disarm(&mut self, bearer: usize) {
-        match self.side(bearer) {
-            Side::First(b) => self.0.disarm(b),
-            Side::Second(b) => self.1.disarm(b),
-            Side::Neither => {}
-        }
+        self.on(bearer, A::disarm, B::disarm);
     }
 }
