@@ -17,8 +17,8 @@ Stands us vs b (Some (Second k)) =
 Stands us vs b None =
     (bearer_of (both us vs) b ≡ absent) × ((x : Bearer) → both us vs ≡ slice_set (both us vs) b x)
 
--- what came of a call: one of the board where the bearer stands, by its number there, and none where it stands nowhere
-abbrev pub Called : {R : Type 0} → (ℕ → R → Type 0) → (ℕ → R → Type 0) → Type 0 → Option R → Option Side → Type 0
-Called first second neither r (Some (First k)) = IsSomeAnd r (first k)
-Called first second neither r (Some (Second k)) = IsSomeAnd r (second k)
-Called first second neither r None = (r ≡ None) × neither
+-- what came of a call that is passed on: what the board where the bearer stands gives, by its number there, and nothing where it stands nowhere
+abbrev pub PassedOn : {R : Type 0} → (ℕ → R → Type 0) → (ℕ → R → Type 0) → Option R → Option Side → Type 0
+PassedOn first second r (Some (First k)) = IsSomeAnd r (first k)
+PassedOn first second r (Some (Second k)) = IsSomeAnd r (second k)
+PassedOn first second r None = r ≡ None

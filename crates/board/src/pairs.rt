@@ -1,5 +1,5 @@
-ghost use Rattle.std.specs.Prelude.{◌≡◌, ⊤};
-ghost use Rattle.board.specs.Pairs.{both, Stands, Called};
+ghost use Rattle.std.specs.Prelude.{◌≡◌, IfNone};
+ghost use Rattle.board.specs.Pairs.{both, Stands, PassedOn};
 
 use crate::boards::Board;
 use crate::packets::Packet;
@@ -31,8 +31,8 @@ impl<A: Board, B: Board> Pair<A, B> {
         }
     }
 
-    /// Asks the board that shows the bearer.
-    fn ask<R, F: FnOnce(&A, usize) -> R, G: FnOnce(&B, usize) -> R>(
+    /// What the board that shows the bearer answers.
+    fn call<R, F: FnOnce(&A, usize) -> R, G: FnOnce(&B, usize) -> R>(
         &self,
         bearer: usize,
         first: F,
@@ -40,10 +40,10 @@ impl<A: Board, B: Board> Pair<A, B> {
     ) -> Option<R>
         requires first { F.IsAlwaysCallable first }
         requires second { G.IsAlwaysCallable second }
-        ensures value { (s : _) × Stands (A.Board.bearers self.now.0) (B.Board.bearers self.now.1) bearer s × Called
+        ensures value { (s : _) × Stands (A.Board.bearers self.now.0) (B.Board.bearers self.now.1) bearer s × PassedOn
             (λ k r. (p : _) × (p.now ≡ self.now.0) × F.post first p k r)
             (λ k r. (p : _) × (p.now ≡ self.now.1) × G.post second p k r)
-            ⊤ result s }
+            result s }
     {
         match self.side(bearer) {
             Some(Side::First(b)) => Some(first(&self.0, b)),
@@ -52,8 +52,8 @@ impl<A: Board, B: Board> Pair<A, B> {
         }
     }
 
-    /// Calls the board that shows the bearer.
-    fn on<R, F: FnOnce(&mut A, usize) -> R, G: FnOnce(&mut B, usize) -> R>(
+    /// The same of a call that may change the board.
+    fn call_mut<R, F: FnOnce(&mut A, usize) -> R, G: FnOnce(&mut B, usize) -> R>(
         &mut self,
         bearer: usize,
         first: F,
@@ -61,10 +61,11 @@ impl<A: Board, B: Board> Pair<A, B> {
     ) -> Option<R>
         requires first { F.IsAlwaysCallable first }
         requires second { G.IsAlwaysCallable second }
-        ensures value { (s : _) × Stands (A.Board.bearers self.old.0) (B.Board.bearers self.old.1) bearer s × Called
-            (λ k r. (p : _) × (q : _) × (p.now ≡ self.old.0) × F.post first p k r q × (q.now ≡ self.new.0) × (self.old.1 ≡ self.new.1))
-            (λ k r. (p : _) × (q : _) × (p.now ≡ self.old.1) × G.post second p k r q × (q.now ≡ self.new.1) × (self.old.0 ≡ self.new.0))
-            (self.old ≡ self.new) result s }
+        ensures value { (s : _) × Stands (A.Board.bearers self.old.0) (B.Board.bearers self.old.1) bearer s × PassedOn
+            (λ k r. (p : _) × (q : _) × (p.now ≡ self.old.0) × F.post first p k r q × (self.new ≡ (q.now, self.old.1)))
+            (λ k r. (p : _) × (q : _) × (p.now ≡ self.old.1) × G.post second p k r q × (self.new ≡ (self.old.0, q.now)))
+            result s }
+        ensures kept { IfNone result (self.new ≡ self.old) }
     {
         match self.side(bearer) {
             Some(Side::First(b)) => Some(first(&mut self.0, b)),
@@ -82,35 +83,35 @@ impl<A: Board, B: Board> Board for Pair<A, B> {
     }
 
     fn depth(&self, bearer: usize) -> usize {
-        self.ask(bearer, A::depth, B::depth).unwrap_or(0)
+        self.call(bearer, A::depth, B::depth).unwrap_or(0)
     }
 
     fn cost(&self, bearer: usize) -> u32 {
-        self.ask(bearer, A::cost, B::cost).unwrap_or(0)
+        self.call(bearer, A::cost, B::cost).unwrap_or(0)
     }
 
     fn waiting(&self, bearer: usize) -> usize {
-        self.ask(bearer, A::waiting, B::waiting).unwrap_or(0)
+        self.call(bearer, A::waiting, B::waiting).unwrap_or(0)
     }
 
     fn signal(&self, bearer: usize) -> bool {
-        self.ask(bearer, A::signal, B::signal).unwrap_or(false)
+        self.call(bearer, A::signal, B::signal).unwrap_or(false)
     }
 
     fn offer(&mut self, bearer: usize, packet: Packet) -> bool {
-        self.on(bearer, |a, b| a.offer(b, packet), |a, b| a.offer(b, packet))
+        self.call_mut(bearer, |a, b| a.offer(b, packet), |a, b| a.offer(b, packet))
             .unwrap_or(false)
     }
 
     fn take(&mut self, bearer: usize) -> Option<Packet> {
-        self.on(bearer, A::take, B::take)?
+        self.call_mut(bearer, A::take, B::take)?
     }
 
     fn arm(&mut self, bearer: usize) {
-        self.on(bearer, A::arm, B::arm);
+        self.call_mut(bearer, A::arm, B::arm);
     }
 
     fn disarm(&mut self, bearer: usize) {
-        self.on(bearer, A::disarm, B::disarm);
+        self.call_mut(bearer, A::disarm, B::disarm);
     }
 }

@@ -1,12 +1,5 @@
-use Rattle.std.proofs.Common.{arith}
-use Rattle.board.proofs.Beside.{length_both, lawful_both}
+use Rattle.board.proofs.Beside.{lawful_both}
 use Rattle.board.proofs.pairs.PairBoard.size.Goals as goal
 
-pub returns : goal.returns
-returns g c =
-    let us = g.A.Board.bearers c.args.self.now.0 in
-    let vs = g.B.Board.bearers c.args.self.now.1 in
-    record {
-      value = omega (arith, length_both us vs);
-      lawful = lawful_both us vs c.size.ensures.lawful c.size-2.ensures.lawful;
-    }
+pub returns-clause-lawful : goal.returns-clause-lawful
+returns-clause-lawful g c = lawful_both _ _ c.size.ensures.lawful c.size-2.ensures.lawful
