@@ -4,7 +4,7 @@ use Rattle.std.proofs.lemmas.List.{length-take, length-append, get_or-take, get_
 use Rattle.std.proofs.lemmas.Bool.{cases_lt}
 use Rattle.std.proofs.Math.Seq.{take-set-lt}
 use Rattle.board.specs.declared.pairs.Side.TheVariants.{First, Second}
-use Rattle.board.specs.Bearers.{Bearer, Sound, Lawful, absent, bearer_of}
+use Rattle.board.specs.Bearers.{Bearer, Lawful, absent}
 use Rattle.board.specs.Pairs.{both, Stands}
 
 module _ (us vs : List Bearer) where

@@ -19,7 +19,7 @@ enum Side {
 
 impl<A: Board, B: Board> Pair<A, B> {
     fn side(&self, bearer: usize) -> Option<Side>
-        ensures value { Stands (A.Board.bearers self.now.0) (B.Board.bearers self.now.1) bearer result }
+        ensures value { Stands (A.bearers self.now.0) (B.bearers self.now.1) bearer result }
     {
         let first = self.0.size();
         if bearer < first {
@@ -31,7 +31,7 @@ impl<A: Board, B: Board> Pair<A, B> {
         }
     }
 
-    /// What the board that shows the bearer answers.
+    /// Calls the function of the board that shows the bearer, with the bearer's number there.
     fn call<R, F: FnOnce(&A, usize) -> R, G: FnOnce(&B, usize) -> R>(
         &self,
         bearer: usize,
@@ -40,19 +40,19 @@ impl<A: Board, B: Board> Pair<A, B> {
     ) -> Option<R>
         requires first { F.IsAlwaysCallable first }
         requires second { G.IsAlwaysCallable second }
-        ensures value { (s : _) × Stands (A.Board.bearers self.now.0) (B.Board.bearers self.now.1) bearer s × PassedOn
-            (λ k r. (p : _) × (p.now ≡ self.now.0) × F.post first p k r)
-            (λ k r. (p : _) × (p.now ≡ self.now.1) × G.post second p k r)
-            result s }
+        ensures value { (side : _) × Stands (A.bearers self.now.0) (B.bearers self.now.1) bearer side × PassedOn
+            (λ b r. (board : _) × (board.now ≡ self.now.0) × F.post first board b r)
+            (λ b r. (board : _) × (board.now ≡ self.now.1) × G.post second board b r)
+            result side }
     {
-        match self.side(bearer) {
-            Some(Side::First(b)) => Some(first(&self.0, b)),
-            Some(Side::Second(b)) => Some(second(&self.1, b)),
-            None => None,
+        match self.side(bearer)? {
+            Side::First(b) => Some(first(&self.0, b)),
+            Side::Second(b) => Some(second(&self.1, b)),
         }
     }
 
-    /// The same of a call that may change the board.
+    /// As `call`, of functions that may change their board.
+    // Not one function with `call`: of a `&mut` at a type parameter, a contract cannot say what a call left there.
     fn call_mut<R, F: FnOnce(&mut A, usize) -> R, G: FnOnce(&mut B, usize) -> R>(
         &mut self,
         bearer: usize,
@@ -61,22 +61,21 @@ impl<A: Board, B: Board> Pair<A, B> {
     ) -> Option<R>
         requires first { F.IsAlwaysCallable first }
         requires second { G.IsAlwaysCallable second }
-        ensures value { (s : _) × Stands (A.Board.bearers self.old.0) (B.Board.bearers self.old.1) bearer s × PassedOn
-            (λ k r. (p : _) × (q : _) × (p.now ≡ self.old.0) × F.post first p k r q × (self.new ≡ (q.now, self.old.1)))
-            (λ k r. (p : _) × (q : _) × (p.now ≡ self.old.1) × G.post second p k r q × (self.new ≡ (self.old.0, q.now)))
-            result s }
+        ensures value { (side : _) × Stands (A.bearers self.old.0) (B.bearers self.old.1) bearer side × PassedOn
+            (λ b r. (board : _) × (left : _) × (board.now ≡ self.old.0) × F.post first board b r left × (self.new ≡ (left.now, self.old.1)))
+            (λ b r. (board : _) × (left : _) × (board.now ≡ self.old.1) × G.post second board b r left × (self.new ≡ (self.old.0, left.now)))
+            result side }
         ensures kept { IfNone result (self.new ≡ self.old) }
     {
-        match self.side(bearer) {
-            Some(Side::First(b)) => Some(first(&mut self.0, b)),
-            Some(Side::Second(b)) => Some(second(&mut self.1, b)),
-            None => None,
+        match self.side(bearer)? {
+            Side::First(b) => Some(first(&mut self.0, b)),
+            Side::Second(b) => Some(second(&mut self.1, b)),
         }
     }
 }
 
 impl<A: Board, B: Board> Board for Pair<A, B> {
-    ghost bearers = { λ x. both (A.Board.bearers x.0) (B.Board.bearers x.1) };
+    ghost bearers = { λ x. both (A.bearers x.0) (B.bearers x.1) };
 
     fn size(&self) -> usize {
         MOST_BEARERS.min(self.0.size() + self.1.size())
@@ -99,8 +98,12 @@ impl<A: Board, B: Board> Board for Pair<A, B> {
     }
 
     fn offer(&mut self, bearer: usize, packet: Packet) -> bool {
-        self.call_mut(bearer, |a, b| a.offer(b, packet), |a, b| a.offer(b, packet))
-            .unwrap_or(false)
+        self.call_mut(
+            bearer,
+            |first, b| first.offer(b, packet),
+            |second, b| second.offer(b, packet),
+        )
+        .unwrap_or(false)
     }
 
     fn take(&mut self, bearer: usize) -> Option<Packet> {
