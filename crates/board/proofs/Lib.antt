@@ -1,7 +1,6 @@
-pub mod Alone
 pub mod Beside
 pub mod Changes
-pub mod Lines
+pub mod Slots
 pub mod Loopbacks
-pub mod Spares
+pub mod Mails
 pub mod Tables

@@ -1,5 +1,5 @@
 -- What a board means: its bearers, and how each call changes them.
-use Rattle.std.specs.Prelude.{ℕ, ◌<◌, ◌≤◌, Bool, true, false, cond, ◌&&◌, ◌||◌, List, [], ◌∷◌, ◌++◌, length, drop, nat_lt, slice_index_or, slice_set}
+use Rattle.std.specs.Prelude.{ℕ, ◌≤◌, All, Bool, true, false, cond, ◌&&◌, ◌||◌, List, [], ◌∷◌, ◌++◌, length, drop, nat_lt, slice_index_or, slice_set}
 use Rattle.board.specs.declared.packets.Packet.{Packet}
 
 pub record Bearer : Type 0 where
@@ -28,14 +28,18 @@ pub record Sound (x : Bearer) : Type 0 where
 pub record Lawful (bs : List Bearer) : Type 0 where
   pub some : 1 ≤ length bs
   pub few : length bs ≤ 8
-  pub each : (b : ℕ) → b < length bs → Sound (bearer_of bs b)
+  pub each : All Sound bs
 
 -- one bearer is changed, and no other; for a bearer that is not shown, none is
 abbrev pub changed : List Bearer → ℕ → (Bearer → Bearer) → List Bearer
 changed bs b f = slice_set bs b (f (bearer_of bs b))
 
+-- whether a line of packets is shorter than its room
+abbrev pub any_room : List Packet → ℕ → Bool
+any_room ps depth = nat_lt (length ps) depth
+
 abbrev pub has_room : Bearer → Bool
-has_room x = nat_lt (length x.waiting) x.depth
+has_room x = any_room x.waiting x.depth
 
 abbrev pub any_waiting : List Packet → Bool
 any_waiting ps = nat_lt 0 (length ps)

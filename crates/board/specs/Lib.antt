@@ -3,3 +3,4 @@ pub mod Costs
 pub mod Line
 pub mod Pairs
 pub mod Shown
+pub mod Signals

@@ -1,48 +1,60 @@
--- The line of packets that lie in numbered slots: each used slot tells its packet's place, 0 for the oldest.
--- Two slots of one place, or a place of the line that no slot has, are not meant to be; but a mailbox carries no proof that it has none, so they read as something too.
-use Rattle.std.specs.Prelude.{◌≡◌, ℕ, zero, suc, ◌<◌, Bool, false, cond, ◌||◌, List, [], ◌∷◌, map, take, Some, None, Option, ◌==◌, nat_lt, slice_index_or}
-use Rattle.std.specs.List.{range_with_len}
+-- The line of packets that lie in a mailbox's numbered slots: each used slot tells its packet's place, 0 for the oldest.
+use Rattle.std.specs.Prelude.{◌≡◌, ℕ, zero, suc, Bool, true, false, cond, List, map, min, take, count_by, Some, None, Option, ◌==◌, nat_lt}
+use Rattle.std.specs.List.{find, range_with_len}
+use Rattle.std.specs.Option.{option_flatten}
 use Rattle.board.specs.declared.packets.Packet.{Packet}
-use Rattle.board.specs.declared.mailbox_slots.Slot.{Slot}
-use Rattle.board.specs.declared.mailbox_slots.Slot.TheVariants.{Free, Used}
+use Rattle.board.specs.declared.mailboxes.Held.{Held}
 
 abbrev pub blank : Packet
 blank = record { number = 0; length = 0; tag = 0 }
 
-abbrev pub packet_in : Slot → Packet
-packet_in Free = blank
-packet_in (Used p i) = p
+abbrev pub is_used : Option Held → Bool
+is_used None = false
+is_used (Some h) = true
 
 -- whether a slot's packet has this place
-abbrev pub has_place : ℕ → Slot → Bool
-has_place k Free = false
-has_place k (Used p i) = i == k
+abbrev pub has_place : ℕ → Option Held → Bool
+has_place k None = false
+has_place k (Some h) = h.place == k
 
-abbrev pub place_if_below : ℕ → Slot → Option ℕ
-place_if_below n Free = None
-place_if_below n (Used p i) = cond (nat_lt i n) (Some i) None
+-- what the slot with this place holds
+abbrev pub held_at : List (Option Held) → ℕ → Option Held
+held_at s k = option_flatten (find (has_place k) s)
 
-abbrev pub any_place : ℕ → List Slot → Bool
-any_place k [] = false
-any_place k (x ∷ s) = has_place k x || any_place k s
+abbrev pub packet_of : Option Held → Packet
+packet_of None = blank
+packet_of (Some h) = h.packet
 
--- the packet at this place: that of the first slot that has it, and a blank one if none has
-abbrev pub packet_at : List Slot → ℕ → Packet
-packet_at [] k = blank
-packet_at (x ∷ s) k = cond (has_place k x) (packet_in x) (packet_at s k)
+-- the packet at this place, and a blank one if no slot has it
+abbrev pub packet_at : List (Option Held) → ℕ → Packet
+packet_at s k = packet_of (held_at s k)
 
 -- the line of n packets, oldest first
-unfoldable pub line : List Slot → ℕ → List Packet
+unfoldable pub line : List (Option Held) → ℕ → List Packet
 line s n = map (packet_at s) (range_with_len 0 n)
 
--- what becomes of a slot when the oldest packet leaves: every other packet moves up by one place
-abbrev pub advanced : Slot → Slot
-advanced Free = Free
-advanced (Used p zero) = Free
-advanced (Used p (suc i)) = Used p i
+-- what becomes of a held packet when the oldest leaves: every other moves up by one place
+abbrev pub up_from : Packet → ℕ → Option Held
+up_from p zero = None
+up_from p (suc k) = Some (record { packet = p; place = k })
 
--- the slot j may take the packet that comes behind a line of n: the line has no packet there, and no slot before it has that place
-abbrev pub Spare : List Slot → ℕ → ℕ → Type 0
-Spare s n j =
-    (any_place n (take j s) ≡ false)
-    × ((k : ℕ) → k < n → any_place k (take j s) ≡ false → has_place k (slice_index_or s j Free) ≡ false)
+abbrev pub advanced : Option Held → Option Held
+advanced None = None
+advanced (Some h) = up_from h.packet h.place
+
+-- what is kept of n packets in slots: each place below n is that of one slot, and no slot has another
+pub record Numbers (s : List (Option Held)) (n : ℕ) : Type 0 where
+  pub used : count_by is_used s ≡ n
+  pub each : (k : ℕ) → count_by (has_place k) s ≡ cond (nat_lt k n) 1 0
+
+-- a mailbox as its callers see it
+pub record Mail : Type 0 where
+  pub depth : ℕ
+  pub packets : List Packet
+
+-- what it shows of that: a depth of 16 at most, and no more packets than that. Nothing is cut off of a mailbox that there is
+abbrev pub mail_room : Mail → ℕ
+mail_room m = min 16 m.depth
+
+abbrev pub mail_packets : Mail → List Packet
+mail_packets m = take (mail_room m) m.packets

@@ -1,21 +1,21 @@
 -- The bearers that the boards of one bearer show.
-use Rattle.std.specs.Prelude.{min}
+use Rattle.std.specs.Prelude.{ℕ, List}
+use Rattle.ring.specs.declared.rings.Ring.{Ring}
 use Rattle.ring.specs.Queue.{held, places}
+use Rattle.board.specs.declared.packets.Packet.{Packet}
+use Rattle.board.specs.declared.signals.Signal.{Signal}
+use Rattle.board.specs.declared.singles.Single.{Single}
 use Rattle.board.specs.Bearers.{Bearer}
-use Rattle.board.specs.Line.{line}
-use Rattle.board.specs.declared.mailboxes.MailboxBearer.{MailboxBearer}
-use Rattle.board.specs.declared.ring_bearers.RingBearer.{RingBearer}
+use Rattle.board.specs.Line.{Mail, mail_room, mail_packets}
+use Rattle.board.specs.Signals.{is_armed, is_up}
 
-abbrev pub ring_bearer : RingBearer → Bearer
-ring_bearer x =
-    record { depth = places x.ring; cost = 200; waiting = held x.ring; armed = x.armed; signal = x.signal }
+-- by the line's room, its price, its packets and the signal
+abbrev pub shown : ℕ → ℕ → List Packet → Signal → Bearer
+shown depth cost packets signal =
+    record { depth = depth; cost = cost; waiting = packets; armed = is_armed signal; signal = is_up signal }
 
-abbrev pub mailbox_bearer : MailboxBearer → Bearer
-mailbox_bearer x =
-    record {
-      depth = min 16 x.depth;
-      cost = 120;
-      waiting = line x.slots (min x.count (min 16 x.depth));
-      armed = x.armed;
-      signal = x.signal;
-    }
+abbrev pub ring_bearer : Single (Ring Packet 256) → Bearer
+ring_bearer x = shown (places x.line) 200 (held x.line) x.signal
+
+abbrev pub mailbox_bearer : Single Mail → Bearer
+mailbox_bearer x = shown (mail_room x.line) 120 (mail_packets x.line) x.signal

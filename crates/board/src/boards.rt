@@ -14,8 +14,7 @@ pub trait Board {
 
     /// How many bearers it shows.
     fn size(&self) -> usize
-        ensures value { result ≡ length (bearers self.now) }
-        ensures lawful { Lawful (bearers self.now) };
+        ensures value { result ≡ length (bearers self.now) };
 
     /// How many packets a bearer can hold.
     fn depth(&self, bearer: usize) -> usize
@@ -51,6 +50,9 @@ pub trait Board {
     /// Disarms a bearer; its signal is then down.
     fn disarm(&mut self, bearer: usize)
         ensures after { bearers self.new ≡ changed (bearers self.old) bearer after_disarm };
+
+    /// What a board keeps at all times.
+    ghost lawful: { (x : Self) → Lawful (bearers x) };
 }
 
 /// What came of a packet's way through a bearer.

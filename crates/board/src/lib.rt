@@ -4,16 +4,16 @@
 #![tactic(auto)]
 
 mod boards;
-mod mailbox_slots;
+mod lines;
 mod mailboxes;
 mod packets;
 mod pairs;
-mod ring_bearers;
+mod signals;
+mod singles;
 #[cfg(test)]
 mod tests;
 
 pub use boards::{Board, Looped, loopback};
-pub use mailboxes::MailboxBearer;
 pub use packets::{Packet, class_cost};
 pub use pairs::Pair;
-pub use ring_bearers::RingBearer;
+pub use singles::{MailboxBearer, RingBearer};

@@ -1,114 +1,150 @@
-ghost use Rattle.std.specs.Prelude.{◌≡◌, min, Bool, false, [], ◌∷◌, length};
-ghost use Rattle.board.specs.Bearers.{changed, after_arm};
-ghost use Rattle.board.specs.Shown.{mailbox_bearer};
+ghost use Rattle.std.specs.Prelude.{◌≡◌, true, false, not, min, [], map, position, Some, ⊤};
+ghost use Rattle.std.proofs.Common.{rules};
+ghost use Rattle.std.proofs.lemmas.List.{length-take};
+ghost use Rattle.board.specs.Line.{is_used, has_place, held_at, advanced, mail_packets, mail_room};
 
-use crate::boards::Board;
-use crate::mailbox_slots::{SLOTS, Slot, put, take_oldest};
+use crate::lines::Line;
 use crate::packets::Packet;
+use std::marker::Model;
 
-/// A board of one bearer, with 16 numbered slots of its own. A slot tells the place of its packet in the line, so the
-/// packets lie in the slots in any order.
-/// Its signal is an edge: only a packet that comes while it is armed raises the signal, and arming it never does.
+/// How many slots a mailbox has.
+const SLOTS: usize = 16;
+
+type Slots = [Option<Held>; SLOTS];
+
+/// A packet in a slot, with its place in the line, 0 for the oldest.
+#[derive(Clone, Copy)]
+struct Held {
+    packet: Packet,
+    place: u8,
+}
+
+/// A line in 16 numbered slots of its own. A slot tells its packet's place in the line, so the packets lie in the
+/// slots in any order.
 #[derive(Drop)]
-pub struct MailboxBearer {
-    slots: [Slot; SLOTS],
-    /// As it was asked for. More than there are slots stands for all of them.
+pub struct Mailbox {
+    slots: Slots,
     depth: usize,
-    /// How many packets wait. More than the depth stands for the depth.
-    count: usize,
-    armed: bool,
-    signal: bool,
-}
-
-impl MailboxBearer {
-    /// A disarmed bearer in which nothing waits, of this depth, or of 16 if that is less.
-    pub fn new(depth: usize) -> MailboxBearer
-        ensures value { mailbox_bearer result ≡ record { depth = min 16 depth; cost = 120; waiting = []; armed = false; signal = false } }
-    {
-        MailboxBearer {
-            slots: [Slot::Free; SLOTS],
-            depth,
-            count: 0,
-            armed: false,
-            signal: false,
-        }
-    }
-
-    /// How many packets it can hold.
-    fn capacity(&self) -> usize
-        ensures value { result ≡ min 16 self.now.depth }
-    {
-        SLOTS.min(self.depth)
-    }
-
     /// How many packets wait.
-    fn len(&self) -> usize
-        ensures value { result ≡ length (mailbox_bearer self.now).waiting }
-        ensures within { result ≡ min self.now.count (min 16 self.now.depth) }
-    {
-        self.count.min(self.capacity())
+    count: usize,
+}
+
+impl Model for Mailbox {
+    ghost use Rattle.std.specs.Prelude.{◌≤◌};
+    ghost use Rattle.board.specs.Line.{Mail, Numbers, line};
+
+    ghost Value = { Mail };
+
+    ghost view = { λ m. record { depth = m.depth; packets = line m.slots m.count } };
+
+    ghost invariant = { λ m. (m.depth ≤ 16) × (m.count ≤ m.depth) × Numbers m.slots m.count };
+}
+
+/// Whether a slot has the oldest packet.
+fn has_oldest(slot: &Option<Held>) -> bool
+    ensures value { result ≡ has_place 0 slot.now }
+{
+    slot.is_some_and(|held| held.place == 0)
+}
+
+/// The oldest packet, whichever slot it lies in.
+fn oldest(slots: &Slots) -> Option<Held>
+    ensures value { result ≡ held_at slots.now 0 }
+{
+    slots
+        .iter()
+        .find(|slot| has_oldest(slot))
+        .copied()
+        .flatten()
+}
+
+/// One place further up, unless it is the oldest, which leaves.
+fn moved_up(slot: Option<Held>) -> Option<Held>
+    ensures value { result ≡ advanced slot }
+{
+    let held = slot?;
+    let place = held.place.checked_sub(1)?;
+    Some(Held { place, ..held })
+}
+
+/// Frees the slot of the oldest packet, and moves every other packet up by one place.
+fn advance(slots: &mut Slots)
+    ensures after { slots.new ≡ map advanced slots.old }
+{
+    for slot in slots.iter_mut() {
+        *slot = moved_up(*slot);
     }
 }
 
-impl Board for MailboxBearer {
-    ghost bearers = { λ x. mailbox_bearer x ∷ [] };
+/// Which slot is free, if one is.
+fn first_free(slots: &Slots) -> Option<usize>
+    ensures value { result ≡ position (λ x. not (is_used x)) slots.now }
+{
+    slots.iter().position(Option::is_none)
+}
 
-    fn size(&self) -> usize {
-        1
-    }
-
-    fn depth(&self, bearer: usize) -> usize {
-        if bearer == 0 { self.capacity() } else { 0 }
-    }
-
-    fn cost(&self, bearer: usize) -> u32 {
-        if bearer == 0 { 120 } else { 0 }
-    }
-
-    fn waiting(&self, bearer: usize) -> usize {
-        if bearer == 0 { self.len() } else { 0 }
-    }
-
-    fn signal(&self, bearer: usize) -> bool {
-        bearer == 0 && self.signal
-    }
-
-    fn offer(&mut self, bearer: usize, packet: Packet) -> bool {
-        let len = self.len();
-        if bearer != 0 || len >= self.capacity() {
-            return false;
-        }
-        put(&mut self.slots, len, packet);
-        self.count = len + 1;
-        self.signal = self.signal || self.armed;
-        true
-    }
-
-    fn take(&mut self, bearer: usize) -> Option<Packet> {
-        if bearer != 0 {
-            return None;
-        }
-        let len = self.len();
-        let came = take_oldest(&mut self.slots, len);
-        self.count = len.saturating_sub(1);
-        self.signal = self.signal && self.count > 0;
-        came
-    }
-
-    fn arm(&mut self, bearer: usize)
-        ensures after { (raises : Bool) × (mailbox_bearer self.new ∷ [] ≡ changed (mailbox_bearer self.old ∷ []) bearer (after_arm raises)) }
-        ensures edge { mailbox_bearer self.new ∷ [] ≡ changed (mailbox_bearer self.old ∷ []) bearer (after_arm false) }
+impl Mailbox {
+    /// An empty mailbox of this depth, or of 16 if that is less.
+    pub(crate) fn new(depth: usize) -> Mailbox
+        ensures value { result ≡ record { depth = min 16 depth; packets = [] } }
     {
-        if bearer == 0 && !self.armed {
-            self.armed = true;
-            self.signal = false;
+        Mailbox {
+            slots: [None; SLOTS],
+            depth: SLOTS.min(depth),
+            count: 0,
+        }
+    }
+}
+
+impl Line for Mailbox {
+    ghost price = { 120 };
+
+    ghost level = { false };
+
+    ghost packets = { λ m. mail_packets m };
+
+    ghost room = { λ m. mail_room m };
+
+    ghost PushLeaves = { λ _ _. ⊤ };
+
+    ghost PopLeaves = { λ _ _. ⊤ };
+
+    ghost priced = { Prim.search rules };
+
+    ghost within = { λ m. Prim.search (rules, length-take (mail_room m) m.packets) };
+
+    fn cost(&self) -> u32 {
+        120
+    }
+
+    fn is_level(&self) -> bool {
+        false
+    }
+
+    fn capacity(&self) -> usize {
+        self.depth
+    }
+
+    fn len(&self) -> usize {
+        self.count
+    }
+
+    fn push(&mut self, packet: Packet) -> Result<(), Packet> {
+        match first_free(&self.slots) {
+            Some(free) if self.count < self.depth => {
+                let place = self.count as u8;
+                self.slots[free] = Some(Held { packet, place });
+                self.count += 1;
+                Ok(())
+            }
+            _ => Err(packet),
         }
     }
 
-    fn disarm(&mut self, bearer: usize) {
-        if bearer == 0 {
-            self.armed = false;
-            self.signal = false;
-        }
+    fn pop(&mut self) -> Option<Packet> {
+        let held = oldest(&self.slots)?;
+        advance(&mut self.slots);
+        self.count -= 1;
+        Some(held.packet)
     }
 }
