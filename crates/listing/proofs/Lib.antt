@@ -1,2 +1,1 @@
 mod Appended
-mod Counted

@@ -8,7 +8,6 @@ ghost use Rattle.listing.specs.Listing.{printed, counted};
 use capture::{ReadError, Refusal, read};
 use rows::{push_row, records_table};
 use std::alloc::{AllocError, Global};
-use table::Field;
 
 mod rows;
 #[cfg(test)]
@@ -21,26 +20,23 @@ const SHOWN: usize = 3;
 #[derive(Drop)]
 pub struct Listing {
     pub outcome: Result<usize, Refusal>,
+    /// In bytes, since `table` writes its rows in place.
     pub text: Vec<u8>,
 }
 
 /// What a capture holds, for the replay's board.
-pub fn list(heap: Global, bytes: &[u8]) -> Result<Listing, AllocError>
+pub fn list(alloc: Global, bytes: &[u8]) -> Result<Listing, AllocError>
     ensures text { IfOk result (λ l. l.text.items ≡ printed (meaning 3 bytes.now)) }
     ensures outcome { IfOk result (λ l. l.outcome ≡ counted (meaning 3 bytes.now)) }
 {
-    match read(heap, bytes, SHOWN) {
-        Ok(packets) => {
-            let text = records_table(heap, &packets)?;
-            let outcome = Ok(packets.len());
-            Ok(Listing { outcome, text })
-        }
+    match read(alloc, bytes, SHOWN) {
+        Ok(packets) => Ok(Listing {
+            outcome: Ok(packets.len()),
+            text: records_table(alloc, &packets)?,
+        }),
         Err(ReadError::Refused(refusal)) => {
-            let mut text = Vec::new(heap);
-            let fields = [
-                Field::Number(u64::from(refusal.number())),
-                Field::Number(refusal.place() as u64),
-            ];
+            let mut text = Vec::new(alloc);
+            let fields = [u64::from(refusal.number()).into(), refusal.place().into()];
             push_row(&mut text, &fields)?;
             Ok(Listing {
                 outcome: Err(refusal),

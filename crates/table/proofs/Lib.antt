@@ -1,4 +1,3 @@
 pub mod Calls
 pub mod Columns
-pub mod Digits
 pub mod Places

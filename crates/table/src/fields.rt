@@ -1,9 +1,9 @@
-ghost use Rattle.std.specs.Prelude.{◌≡◌, ◌+◌, ◌≤◌, true, length};
-ghost use Rattle.table.specs.Memory.{written};
+ghost use Rattle.std.specs.Prelude.{◌≡◌, ◌≤◌, true, length};
 ghost use Rattle.table.specs.Text.{field, plain, spelling};
+ghost use Rattle.table.specs.declared.fields.Field.TheVariants as kind;
 
-use crate::memory::write_bytes;
-use crate::numbers::{number_len, write_number};
+use crate::numbers::number_len;
+use crate::texts::Text;
 
 /// The fixed words that tables have.
 #[derive(Clone, Copy, PartialEq, Eq, Debug)]
@@ -15,17 +15,29 @@ pub enum Word {
 }
 
 impl Word {
-    /// The word's bytes. None of them has a meaning of its own in a table, so a word needs no quotes.
-    pub fn text(self) -> &'static [u8]
+    /// The word's letters. None of them has a meaning of its own in a table, so a word needs no quotes.
+    pub fn text(self) -> &'static str
         ensures value { result.now ≡ spelling self }
         ensures plain { plain result.now ≡ true }
     {
         match self {
-            Word::Packet => b"packet",
-            Word::Bearer => b"bearer",
-            Word::Length => b"length",
-            Word::Microseconds => b"microseconds",
+            Word::Packet => "packet",
+            Word::Bearer => "bearer",
+            Word::Length => "length",
+            Word::Microseconds => "microseconds",
         }
+    }
+}
+
+impl Text for Word {
+    ghost text = { spelling };
+
+    fn text_len(self) -> usize {
+        self.text().len()
+    }
+
+    fn write(self, memory: &mut [u8], at: usize) -> usize {
+        self.text().as_bytes().write(memory, at)
     }
 }
 
@@ -36,27 +48,47 @@ pub enum Field {
     Word(Word),
 }
 
-impl Field {
-    /// How many bytes the field's text has.
-    pub(crate) fn len(self) -> usize
+impl Text for Field {
+    ghost text = { field };
+
+    fn text_len(self) -> usize
         ensures value { result ≡ length (field self) }
         ensures high_bound { result ≤ 20 }
     {
         match self {
             Field::Number(n) => number_len(n),
-            Field::Word(word) => word.text().len(),
+            Field::Word(word) => word.text_len(),
         }
     }
 
-    /// Writes the field's text, which fits, and answers the place behind it.
-    pub(crate) fn write(self, memory: &mut [u8], at: usize) -> usize
-        requires room { at + length (field self) ≤ length memory.old }
-        ensures value { result ≡ at + length (field self) }
-        ensures after { memory.new ≡ written memory.old at (field self) }
-    {
+    fn write(self, memory: &mut [u8], at: usize) -> usize {
         match self {
-            Field::Number(n) => write_number(memory, at, n),
-            Field::Word(word) => write_bytes(memory, at, word.text()),
+            Field::Number(n) => n.write(memory, at),
+            Field::Word(word) => word.write(memory, at),
         }
+    }
+}
+
+impl From<u64> for Field {
+    ghost from_gives = { λ n f. f ≡ kind.Number n };
+
+    fn from(n: u64) -> Field {
+        Field::Number(n)
+    }
+}
+
+impl From<usize> for Field {
+    ghost from_gives = { λ n f. f ≡ kind.Number n };
+
+    fn from(n: usize) -> Field {
+        Field::Number(n as u64)
+    }
+}
+
+impl From<Word> for Field {
+    ghost from_gives = { λ word f. f ≡ kind.Word word };
+
+    fn from(word: Word) -> Field {
+        Field::Word(word)
     }
 }

@@ -8,8 +8,9 @@ mod numbers;
 mod rows;
 #[cfg(test)]
 mod tests;
+mod texts;
 
 pub use fields::{Field, Word};
-pub use memory::{TooSmall, put_bytes};
-pub use numbers::{number_len, put_number};
-pub use rows::{put_row, row_len};
+pub use memory::{TooSmall, put};
+pub use numbers::number_len;
+pub use texts::text_len;

@@ -1,63 +1,36 @@
-ghost use Rattle.std.specs.Prelude.{◌≡◌, ◌+◌, ◌^◌, ◌<◌, ◌≤◌, length};
-ghost use Rattle.std.specs.Option.{SomeIff};
-ghost use Rattle.table.specs.Memory.{answer, left, written};
-ghost use Rattle.table.specs.Text.{ending, row};
+ghost use Rattle.table.specs.Text.{row};
 
-use crate::memory::{has_room, write_bytes};
-use crate::{Field, TooSmall};
+use crate::Field;
+use crate::texts::Text;
 
+/// What stands between two fields.
+const COMMA: &[u8] = b",";
+/// What ends a row.
 const ROW_END: &[u8] = b"\r\n";
 
-/// How many bytes the row of `fields` has, where a `usize` can say it.
-pub fn row_len(fields: &[Field]) -> Option<usize>
-    ensures value { SomeIff result (length (row fields.now) < 2 ^ 64) (length (row fields.now)) }
-{
-    let [first, rest @ ..] = fields else {
-        return Some(ROW_END.len());
-    };
-    let mut len = first.len();
-    for field in rest {
-        len = len.checked_add(1 + field.len())?;
-    }
-    len.checked_add(ROW_END.len())
-}
+impl Text for &[Field] {
+    ghost text = { λ fields. row fields.now };
 
-/// Writes the row of `fields` from the place `at` on, and answers the place behind it.
-pub fn put_row(memory: &mut [u8], at: usize, fields: &[Field]) -> Result<usize, TooSmall>
-    ensures value { result ≡ answer memory.old at (row fields.now) }
-    ensures after { memory.new ≡ left memory.old at (row fields.now) }
-{
-    let Some(need) = row_len(fields) else {
-        return Err(TooSmall { need: usize::MAX });
-    };
-    if !has_room(memory.len(), at, need) {
-        return Err(TooSmall { need });
+    #[tactic(auto, using(crate::proofs::Columns::lengths))]
+    fn text_len(self) -> usize {
+        // No chain: `sum` asks for a proof by hand that the total fits, the loop's invariant shows it.
+        let mut len = self.len().saturating_sub(1) + ROW_END.len();
+        for field in self {
+            len += field.text_len();
+        }
+        len
     }
-    Ok(write_row(memory, at, fields))
-}
 
-/// Writes the row of `fields`, which fits, and answers the place behind it.
-fn write_row(memory: &mut [u8], at: usize, fields: &[Field]) -> usize
-    requires room { at + length (row fields.now) ≤ length memory.old }
-    ensures value { result ≡ at + length (row fields.now) }
-    ensures after { memory.new ≡ written memory.old at (row fields.now) }
-{
-    let [first, rest @ ..] = fields else {
-        return end_row(memory, at);
-    };
-    let mut place = first.write(memory, at);
-    for field in rest {
-        place = write_bytes(memory, place, b",");
-        place = field.write(memory, place);
+    #[tactic(auto, using(crate::proofs::Columns::columns))]
+    fn write(self, memory: &mut [u8], at: usize) -> usize {
+        let [first, rest @ ..] = self else {
+            return ROW_END.write(memory, at);
+        };
+        let mut place = first.write(memory, at);
+        for field in rest {
+            place = COMMA.write(memory, place);
+            place = field.write(memory, place);
+        }
+        ROW_END.write(memory, place)
     }
-    end_row(memory, place)
-}
-
-/// Writes the end of a row, which fits, and answers the place behind it.
-fn end_row(memory: &mut [u8], at: usize) -> usize
-    requires room { at + length ending ≤ length memory.old }
-    ensures value { result ≡ at + length ending }
-    ensures after { memory.new ≡ written memory.old at ending }
-{
-    write_bytes(memory, at, ROW_END)
 }
