@@ -1,17 +1,13 @@
 -- What a writer's answer tells its caller, for one call and for the next behind it.
-use Rattle.std.proofs.Common.{◌≡◌, ℕ, ◌+◌, ◌<◌, ◌≤◌, List, ◌++◌, length, get_or, drop, Ok, Err, ◌∙◌, arith}
+use Rattle.std.proofs.Common.{◌≡◌, ℕ, ◌+◌, ◌<◌, ◌≤◌, List, ◌++◌, length, get_or, drop, Ok, Err, arith}
 use Rattle.std.specs.List.{flat_map}
 use Rattle.std.proofs.lemmas.Grind.{common_steps}
-use Rattle.std.proofs.lemmas.List.{at_drop_more, length-append}
+use Rattle.std.proofs.lemmas.List.{at_drop_more}
 use Rattle.table.specs.declared.memory.TooSmall.{TooSmall}
 use Rattle.table.specs.Memory.{answer, left, refusal, written}
-use Rattle.table.proofs.Places.{written_next}
+use Rattle.table.proofs.Places.{written_written}
 
 module _ (m : List ℕ) (at : ℕ) (bs : List ℕ) where
-  -- a text that fits is accepted
-  pub answer_fits : at + length bs ≤ length m → answer m at bs ≡ Ok (at + length bs)
-  answer_fits h = grind (arith, common_steps)
-
   -- what an accepted text says
   pub answer_ok : (next : ℕ) → answer m at bs ≡ Ok next → (at + length bs ≤ length m) × (next ≡ at + length bs) × (left m at bs ≡ written m at bs)
   answer_ok next ok = grind (arith, common_steps)
@@ -22,15 +18,13 @@ module _ (m : List ℕ) (at : ℕ) (bs : List ℕ) where
 
 -- what is left to write, behind a text that was accepted, gives the whole
 pub answer_next : {m' : List ℕ} {next : ℕ} (m : List ℕ) (at : ℕ) (xs ys : List ℕ) → answer m at xs ≡ Ok next → m' ≡ left m at xs → (written m' next ys ≡ written m at (xs ++ ys)) × (next + length ys ≡ at + length (xs ++ ys))
-answer_next {m'} {next} m at xs ys ok after =
-    let o = answer_ok m at xs next ok in
-    (written_next m xs ys (after ∙ o.2) o.1 (omega arith), omega (arith, length-append xs ys))
+answer_next m at xs ys ok after = grind (arith, common_steps, written_written)
 
 -- one turn of a loop that writes the text of each of some things, as `table` is of its rows
 module _ {X : Type 0} (f : X → List ℕ) (things : List X) (i : ℕ) (d : X) (more : i < length things) (m : List ℕ) (at : ℕ) where
   pub joined_next : {m' : List ℕ} {next : ℕ} → answer m at (f (get_or things i d)) ≡ Ok next → m' ≡ left m at (f (get_or things i d)) → (written m' next (flat_map f (drop (i + 1) things)) ≡ written m at (flat_map f (drop i things))) × (next + length (flat_map f (drop (i + 1) things)) ≡ at + length (flat_map f (drop i things)))
-  joined_next ok after = rw (at_drop_more (flat_map f) things i d more) (answer_next m at (f (get_or things i d)) (flat_map f (drop (i + 1) things)) ok after)
+  joined_next ok after =
+      rw (at_drop_more (flat_map f) things i d more) (answer_next m at (f (get_or things i d)) (flat_map f (drop (i + 1) things)) ok after)
 
   pub joined_err : {e : TooSmall} → answer m at (f (get_or things i d)) ≡ Err e → length m < at + length (flat_map f (drop i things))
-  joined_err {e} err =
-      rw (at_drop_more (flat_map f) things i d more, length-append) (omega (arith, (answer_err m at (f (get_or things i d)) e err).0))
+  joined_err err = rw (at_drop_more (flat_map f) things i d more) (grind (arith, common_steps))
