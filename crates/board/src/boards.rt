@@ -14,7 +14,8 @@ pub trait Board {
 
     /// How many bearers it shows.
     fn size(&self) -> usize
-        ensures value { result ≡ length (bearers self.now) };
+        ensures value { result ≡ length (bearers self.now) }
+        ensures lawful { Lawful (bearers self.now) };
 
     /// How many packets a bearer can hold.
     fn depth(&self, bearer: usize) -> usize
@@ -51,11 +52,12 @@ pub trait Board {
     fn disarm(&mut self, bearer: usize)
         ensures after { bearers self.new ≡ changed (bearers self.old) bearer after_disarm };
 
-    /// What a board keeps at all times.
-    ghost lawful: { (x : Self) → Lawful (bearers x) };
+    /// What a board keeps at all times, also where `size` is not asked.
+    ghost kept: { (x : Self) → Lawful (bearers x) };
 }
 
 /// What came of a packet's way through a bearer.
+// Not one `Result`: where the packet found no room, the oldest comes out all the same.
 #[derive(Clone, Copy, PartialEq, Eq, Debug)]
 pub struct Looped {
     /// Whether the bearer took the packet and raised its signal.

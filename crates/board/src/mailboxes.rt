@@ -25,7 +25,7 @@ struct Held {
 pub struct Mailbox {
     slots: Slots,
     depth: usize,
-    /// How many packets wait.
+    /// How many packets wait, beside the slots, since their memory is fixed.
     count: usize,
 }
 

@@ -82,10 +82,10 @@ impl<A: Board, B: Board> Board for Pair<A, B> {
 
     ghost bearers = { λ x. both (A.bearers x.0) (B.bearers x.1) };
 
-    ghost lawful = { λ x.
+    ghost kept = { λ x.
         let us = A.bearers x.0 in
         let vs = B.bearers x.1 in
-        Prim.search (rules, length-take 8 (us ++ vs), length-append us vs, All-take Sound 8, All-append Sound us vs, A.lawful x.0, B.lawful x.1) };
+        Prim.search (rules, length-take 8 (us ++ vs), length-append us vs, All-take Sound 8, All-append Sound us vs, A.kept x.0, B.kept x.1) };
 
     fn size(&self) -> usize {
         MOST_BEARERS.min(self.0.size() + self.1.size())

@@ -65,7 +65,7 @@ impl<L: Line> Board for Single<L> {
 
     ghost bearers = { λ x. shown (L.room x.line) L.price (L.packets x.line) x.signal ∷ [] };
 
-    ghost lawful = { λ x. Prim.search (rules, All-cons Sound, L.priced, L.within x.line) };
+    ghost kept = { λ x. Prim.search (rules, All-cons Sound, L.priced, L.within x.line) };
 
     fn size(&self) -> usize {
         1

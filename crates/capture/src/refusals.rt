@@ -30,6 +30,7 @@ impl Refusal {
     pub fn number(self) -> u8
         ensures value { result ≡ number self }
     {
+        // By a match: the discriminant of a variant with a payload cannot be cast.
         match self {
             Refusal::TooLong => 9,
             Refusal::NoHeader => 10,

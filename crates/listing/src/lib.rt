@@ -29,6 +29,7 @@ pub fn list(alloc: Global, bytes: &[u8]) -> Result<Listing, AllocError>
     ensures text { IfOk result (λ l. l.text.items ≡ printed (meaning 3 bytes.now)) }
     ensures outcome { IfOk result (λ l. l.outcome ≡ counted (meaning 3 bytes.now)) }
 {
+    // No `?`: a refusal is a listing too, and only want of memory ends without one.
     match read(alloc, bytes, SHOWN) {
         Ok(packets) => Ok(Listing {
             outcome: Ok(packets.len()),

@@ -5,6 +5,7 @@ ghost use Rattle.ring.specs.Queue.{turned_place, beyond, places, held, has_room}
 /// A queue in lent slots: the first `MOST` of them, or all if there are fewer. The slots behind those are left alone.
 ///
 /// It has no invariant: `head` and `len` mean something whatever they are, so a ring can be held by value anywhere.
+// They stand beside the slots, since these are lent and a queue may not allocate.
 #[derive(Drop)]
 pub struct Ring<'a, T, const MOST: usize> {
     slots: &'a mut [T],

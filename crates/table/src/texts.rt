@@ -11,6 +11,7 @@ pub trait Text: Copy {
         ensures value { result ≡ length (text self) };
 
     /// Writes the text, which fits, from the place `at` on, and answers the place behind it.
+    // A place beside the memory, as in `put`, which takes any place, also one where no part of the memory begins.
     fn write(self, memory: &mut [u8], at: usize) -> usize
         requires room { at + length (text self) ≤ length memory.old }
         ensures value { result ≡ at + length (text self) }
