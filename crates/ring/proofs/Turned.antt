@@ -1,6 +1,7 @@
 -- How what a ring holds changes: its slots, in the order in which it goes through them.
-use Rattle.std.proofs.Common.{◌≡◌, ℕ, zero, suc, ◌+◌, ◌-◌, ◌<◌, ◌≤◌, min, true, ltb, List, [], ◌∷◌, ◌++◌, length, get_or, take, drop, set, Some, None, sym, refl, ap, ◌∙◌, ⊎_elim, arith}
+use Rattle.std.proofs.Common.{◌≡◌, ℕ, ◌+◌, ◌-◌, ◌<◌, ◌≤◌, min, true, ltb, List, [], ◌∷◌, ◌++◌, length, get_or, take, drop, set, Some, None, sym, ap, ◌∙◌, ⊎_elim, arith}
 use Rattle.std.specs.List.{slice_get}
+use Rattle.std.proofs.Math.Seq.{take-set-lt}
 use Rattle.std.proofs.lemmas.List.{same_lists, nil_from_length, length-append, length-drop, length-take, get_or-drop, get_or-take, get_or_append_left, get_or-append_right, set-append_left, set-append_right, drop-set-add, drop-set-lt, take_more_set, take-set-le}
 use Rattle.std.proofs.lemmas.Option.{slice_get-get_or, slice_get_past}
 use Rattle.std.proofs.lemmas.Bool.Decides.{nat_tests}
@@ -13,17 +14,14 @@ place_low c h i a = cond-true _ _ _ (lt-ltb i (c - h) a)
 place_high : (c h i : ℕ) → c - h ≤ i → turned_place c h i ≡ i - (c - h)
 place_high c h i a = cond-false _ _ _ (le-ltb i (c - h) a)
 
+place_inside : (c h i : ℕ) → i < c → turned_place c h i < c
+place_inside c h i a = grind (arith, nat_tests)
+
 -- from the slot behind the first of the order, the i-th is the one behind the i-th
 place_more : (c h i : ℕ) → 1 + i < c → turned_place c (turned_place c h 0 + 1) i ≡ turned_place c h (1 + i)
 place_more c h i a = grind (arith, nat_tests)
 
 module _ {X : Type 0} where
-  pub set-take : (n : ℕ) (xs : List X) (i : ℕ) (x : X) → take n (set xs i x) ≡ set (take n xs) i x
-  set-take zero xs i x = refl
-  set-take (suc n) [] i x = refl
-  set-take (suc n) (y ∷ ys) zero x = refl
-  set-take (suc n) (y ∷ ys) (suc i) x = ap (λ zs. y ∷ zs) (set-take n ys i x)
-
   -- a ring of the c slots u, with its head at h
   module _ (u : List X) (c h : ℕ) (e : length u ≡ c) where
     behind : length (drop h u) ≡ c - h
@@ -59,7 +57,7 @@ module _ {X : Type 0} where
         (λ (l : c - h ≤ i).
         ap (λ j. drop h (set u j x) ++ take h (set u j x)) (place_high c h i l)
         ∙ ap (λ ys. ys ++ take h (set u (i - (c - h)) x)) (drop-set-lt h u (i - (c - h)) x (omega arith))
-        ∙ ap (λ ys. drop h u ++ ys) (set-take h u (i - (c - h)) x)
+        ∙ ap (λ ys. drop h u ++ ys) (take-set-lt h u (i - (c - h)) x (omega (arith, behind)))
         ∙ sym (set-append_right (drop h u) (take h u) (c - h) i x behind l))
         (cases_lt i (c - h))
 
@@ -95,7 +93,7 @@ module _ {X : Type 0} where
     pub held_push : (m j : ℕ) (x : X) → m ≡ min n c → m < c → j ≡ turned_place c h m → take (m + 1) (turned (take most (set s j x)) h) ≡ contents ++ x ∷ []
     held_push m j x a b p =
         ap (λ k. take (m + 1) (turned (take most (set s k x)) h)) p
-        ∙ ap (λ u. take (m + 1) (turned u h)) (set-take most s (turned_place c h m) x)
+        ∙ ap (λ u. take (m + 1) (turned u h)) (take-set-lt most s (turned_place c h m) x (omega (arith, place_inside c h m b)))
         ∙ ap (take (m + 1)) (set-turned (take most s) c h used m x b)
         ∙ take_more_set (turned (take most s) h) m x (omega (arith, length-turned (take most s) c h used))
         ∙ ap (λ k. take k (turned (take most s) h) ++ x ∷ []) (omega arith)
