@@ -3,4 +3,3 @@ pub mod Changes
 pub mod Slots
 pub mod Loopbacks
 pub mod Mails
-pub mod Tables

@@ -1,9 +1,9 @@
 -- How what a ring holds changes: its slots, in the order in which it goes through them.
-use Rattle.std.proofs.Common.{◌≡◌, ℕ, ◌+◌, ◌-◌, ◌<◌, ◌≤◌, min, true, ltb, List, [], ◌∷◌, ◌++◌, length, get_or, take, drop, set, Some, None, sym, ap, ◌∙◌, ⊎_elim, arith}
+use Rattle.std.proofs.Common.{◌≡◌, ℕ, ◌+◌, ◌-◌, ◌<◌, ◌≤◌, min, true, ltb, List, [], ◌∷◌, ◌++◌, length, get_or, take, drop, set, Some, sym, ap, ◌∙◌, ⊎_elim, arith}
 use Rattle.std.specs.List.{slice_get}
 use Rattle.std.proofs.Math.Seq.{take-set-lt}
-use Rattle.std.proofs.lemmas.List.{same_lists, nil_from_length, length-append, length-drop, length-take, get_or-drop, get_or-take, get_or_append_left, get_or-append_right, set-append_left, set-append_right, drop-set-add, drop-set-lt, take_more_set, take-set-le}
-use Rattle.std.proofs.lemmas.Option.{slice_get-get_or, slice_get_past}
+use Rattle.std.proofs.lemmas.List.{same_lists, length-append, length-drop, length-take, get_or-drop, get_or-take, get_or_append_left, get_or-append_right, set-append_left, set-append_right, drop-set-add, drop-set-lt, take_more_set, take-set-le}
+use Rattle.std.proofs.lemmas.Option.{slice_get-get_or}
 use Rattle.std.proofs.lemmas.Bool.Decides.{nat_tests}
 use Rattle.std.proofs.lemmas.Bool.{cases_lt, cond-true, cond-false, lt-ltb, le-ltb}
 use Rattle.ring.specs.Queue.{turned, turned_place}
@@ -72,14 +72,8 @@ module _ {X : Type 0} where
     pub length-held : length contents ≡ min n c
     length-held = omega (arith, length-take n (turned (take most s) h), length-turned (take most s) c h used)
 
-    pub held_empty : min n c ≡ 0 → contents ≡ drop 1 contents
-    held_empty a = let z : contents ≡ [] = nil_from_length contents (omega (arith, length-held)) in z ∙ sym (ap (drop 1) z)
-
     pub room_true : min n c < c → ltb (length contents) c ≡ true
     room_true a = lt-ltb (length contents) c (omega (arith, length-held))
-
-    pub held_none : (i : ℕ) → min n c ≤ i → None ≡ slice_get contents i
-    held_none i a = sym (slice_get_past contents i (omega (arith, length-held)))
 
     pub held_at : (i j : ℕ) (x : X) → i < min n c → j ≡ turned_place c h i → j < c → x ≡ get_or s j x → Some x ≡ slice_get contents i
     held_at i j x a p b f =

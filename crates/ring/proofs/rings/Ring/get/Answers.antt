@@ -1,11 +1,6 @@
 use Rattle.std.proofs.Common.{refl, arith}
-use Rattle.ring.proofs.Turned.{held_none, held_at}
+use Rattle.ring.proofs.Turned.{held_at}
 use Rattle.ring.proofs.rings.Ring.get.Goals as goal
-
-pub returns-then-i-len : goal.returns-then-i-len
-returns-then-i-len g c =
-    let r = c.args.self.now in
-    record { value = held_none r.slots.now g.row.MOST r.head r.len _ refl c.args.i (omega arith) }
 
 pub returns : goal.returns
 returns g c =

@@ -1,12 +1,8 @@
-use Rattle.std.proofs.Common.{◌≡◌, min, sym, ◌∙◌, arith}
+use Rattle.std.proofs.Common.{sym, ◌∙◌}
 use Rattle.ring.proofs.Turned.{length-held}
 use Rattle.ring.proofs.rings.Ring.len.Goals as goal
 
-pub returns : goal.returns
-returns g c =
+pub returns-clause-value : goal.returns-clause-value
+returns-clause-value g c =
     let r = c.args.self.now in
-    let n : c.min.result ≡ min r.len c.capacity.result = c.min.ensures in
-    record {
-      value = n ∙ sym (length-held r.slots.now g.row.MOST r.head r.len c.capacity.result c.capacity.ensures.value);
-      within = omega arith;
-    }
+    c.min.ensures ∙ sym (length-held r.slots.now g.row.MOST r.head r.len c.capacity.result c.capacity.ensures.value)
