@@ -7,7 +7,7 @@ use Rattle.std.proofs.lemmas.List.{same_lists, nil_from_length, length-drop, get
 use Rattle.std.proofs.lemmas.List.FromFn.{length-map-range_with_len, get_or-map-range_with_len, map-range_with_len_more}
 use Rattle.std.proofs.lemmas.List.Sums.{sum_by-set, sum_by-cons}
 use Rattle.std.proofs.lemmas.List.Quantifiers.{position-Some}
-use Rattle.std.proofs.lemmas.Option.{slice_get-get_or}
+use Rattle.std.proofs.lemmas.Option.{none-some, slice_get-get_or}
 use Rattle.std.proofs.lemmas.Bool.{false≢true, cases_lt, cond-true, cond-false, eq-eqb, ne_eqb, lt-ltb, le-ltb}
 use Rattle.std.proofs.lemmas.Bool.Decides.{nat_tests}
 use Rattle.board.specs.declared.packets.Packet.{Packet}
@@ -72,9 +72,6 @@ free_found [] l = l
 free_found (None ∷ s) l = omega arith
 free_found (Some h ∷ s) l = omega (arith, free_found s (omega (arith, count_more is_used (Some h) s)))
 
-pub some_is_none : {X : Type 0} (x : X) → Some x ≡ None → ⊥
-some_is_none x e = let z : ◌≡◌ {A = ℕ} 0 1 = cc in omega arith
-
 unused : (x : Option Held) → not (is_used x) ≡ true → x ≡ None
 unused None e = refl
 unused (Some h) e = absurd (false≢true e)
@@ -86,7 +83,7 @@ pub none_free : (s : List (Option Held)) → None ≡ position (λ x. not (is_us
 none_free s e =
     ⊎_elim
     (λ (l : count_by is_used s < length s).
-    absurd (some_is_none _ (sym (e ∙ cond-true _ _ _ (lt-ltb _ (length s) (free_found s l))))))
+    absurd (none-some _ (e ∙ cond-true _ _ _ (lt-ltb _ (length s) (free_found s l)))))
     (λ (l : length s ≤ count_by is_used s). l)
     (cases_lt (count_by is_used s) (length s))
 
@@ -95,7 +92,7 @@ module _ (s : List (Option Held)) (n : ℕ) (kept : Numbers s n) where
   held_within k h e =
       ⊎_elim
       (λ (l : k < n). l)
-      (λ (l : n ≤ k). absurd (some_is_none h (sym e ∙ missed s k (kept.each k ∙ ap (λ b. cond {A = ℕ} b 1 0) (le-ltb k n l)))))
+      (λ (l : n ≤ k). absurd (none-some h (sym (missed s k (kept.each k ∙ ap (λ b. cond {A = ℕ} b 1 0) (le-ltb k n l))) ∙ e)))
       (cases_lt k n)
 
   pub held_none : held_at s 0 ≡ None → n ≡ 0
@@ -103,7 +100,7 @@ module _ (s : List (Option Held)) (n : ℕ) (kept : Numbers s n) where
       ⊎_elim
       (λ (l : 0 < n).
       let f = found s 0 (omega (arith, kept.each 0 ∙ ap (λ b. cond {A = ℕ} b 1 0) (lt-ltb 0 n l))) in
-      absurd (some_is_none f.0 (sym f.1 ∙ e)))
+      absurd (none-some f.0 (sym e ∙ f.1)))
       (λ (l : n ≤ 0). omega arith)
       (cases_lt 0 n)
 

@@ -35,6 +35,7 @@ pub trait Board {
         ensures value { result ≡ (bearer_of (bearers self.now) bearer).signal };
 
     /// Puts a packet behind those that wait, which raises the signal of an armed bearer; `false` if there is no room.
+    // Not a `Result` that hands the packet back: the caller has it still.
     fn offer(&mut self, bearer: usize, packet: Packet) -> bool
         ensures value { result ≡ has_room (bearer_of (bearers self.old) bearer) }
         ensures after { bearers self.new ≡ changed (bearers self.old) bearer (after_offer packet) };
@@ -51,9 +52,6 @@ pub trait Board {
     /// Disarms a bearer; its signal is then down.
     fn disarm(&mut self, bearer: usize)
         ensures after { bearers self.new ≡ changed (bearers self.old) bearer after_disarm };
-
-    /// What a board keeps at all times, also where `size` is not asked.
-    ghost kept: { (x : Self) → Lawful (bearers x) };
 }
 
 /// What came of a packet's way through a bearer.

@@ -9,6 +9,8 @@ use crate::packets::Packet;
 use ring::Ring;
 
 /// The line of packets that wait in one bearer, and what else sets the bearer's kind apart.
+// Price and level are ghost members beside methods: a constant with a ghost member cannot stand in an `impl` that has
+// a lifetime parameter, as a ring's has.
 pub trait Line {
     ghost price: { ℕ };
 
@@ -63,7 +65,6 @@ pub trait Line {
 
 /// A line in slots that the host lends: the first 256 of them, or all if there are fewer.
 impl<'a> Line for Ring<'a, Packet, 256> {
-    ghost use Rattle.std.proofs.Common.{refl};
     ghost use Rattle.ring.proofs.Turned.{length-held};
 
     ghost price = { 200 };
@@ -80,7 +81,7 @@ impl<'a> Line for Ring<'a, Packet, 256> {
 
     ghost priced = { Prim.search rules };
 
-    ghost within = { λ r. Prim.search (rules, length-held r.slots.now 256 r.head r.len _ refl) };
+    ghost within = { λ r. Prim.search (rules, length-held r) };
 
     fn cost(&self) -> u32 {
         200

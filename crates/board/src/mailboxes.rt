@@ -25,7 +25,7 @@ struct Held {
 pub struct Mailbox {
     slots: Slots,
     depth: usize,
-    /// How many packets wait, beside the slots, since their memory is fixed.
+    /// How many packets wait. It stands beside the slots, whose memory is fixed, so as not to be counted at each call.
     count: usize,
 }
 

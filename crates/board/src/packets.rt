@@ -24,5 +24,5 @@ pub fn class_cost(length: u16) -> u32
     ensures bound { result ≤ 1360 }
 {
     let class = length.saturating_sub(1) / 32;
-    CLASS_COSTS[class.min(11) as usize]
+    CLASS_COSTS[usize::from(class.min(11))]
 }

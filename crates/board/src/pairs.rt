@@ -75,17 +75,7 @@ impl<A: Board, B: Board> Pair<A, B> {
 }
 
 impl<A: Board, B: Board> Board for Pair<A, B> {
-    ghost use Rattle.std.proofs.Common.{rules, ◌++◌};
-    ghost use Rattle.std.proofs.lemmas.List.{length-append, length-take};
-    ghost use Rattle.std.proofs.lemmas.List.Elements.{All-append, All-take};
-    ghost use Rattle.board.specs.Bearers.{Sound};
-
     ghost bearers = { λ x. both (A.bearers x.0) (B.bearers x.1) };
-
-    ghost kept = { λ x.
-        let us = A.bearers x.0 in
-        let vs = B.bearers x.1 in
-        Prim.search (rules, length-take 8 (us ++ vs), length-append us vs, All-take Sound 8, All-append Sound us vs, A.kept x.0, B.kept x.1) };
 
     fn size(&self) -> usize {
         MOST_BEARERS.min(self.0.size() + self.1.size())

@@ -59,13 +59,7 @@ impl Single<Mailbox> {
 }
 
 impl<L: Line> Board for Single<L> {
-    ghost use Rattle.std.proofs.Common.{rules};
-    ghost use Rattle.std.proofs.lemmas.List.Elements.{All-cons};
-    ghost use Rattle.board.specs.Bearers.{Sound};
-
     ghost bearers = { λ x. shown (L.room x.line) L.price (L.packets x.line) x.signal ∷ [] };
-
-    ghost kept = { λ x. Prim.search (rules, All-cons Sound, L.priced, L.within x.line) };
 
     fn size(&self) -> usize {
         1

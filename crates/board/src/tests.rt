@@ -152,16 +152,8 @@ fn eight() -> Pair<Four, Four> {
 type Four = Pair<Pair<MailboxBearer, MailboxBearer>, Pair<MailboxBearer, MailboxBearer>>;
 
 fn four(first: usize) -> Four {
-    let [a, b, c, d] = [
-        first,
-        first.saturating_add(1),
-        first.saturating_add(2),
-        first.saturating_add(3),
-    ];
-    Pair(
-        Pair(MailboxBearer::new(a), MailboxBearer::new(b)),
-        Pair(MailboxBearer::new(c), MailboxBearer::new(d)),
-    )
+    let [a, b, c, d] = [0, 1, 2, 3].map(|more| MailboxBearer::new(first.saturating_add(more)));
+    Pair(Pair(a, b), Pair(c, d))
 }
 
 #[test]

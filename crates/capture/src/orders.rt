@@ -1,4 +1,4 @@
-ghost use Rattle.std.specs.Prelude.{◌≡◌, ◌+◌, ◌≤◌, length};
+ghost use Rattle.std.specs.Prelude.{◌≡◌, ◌+◌, ◌≤◌, ◌⊎◌, length};
 ghost use Rattle.capture.specs.Numbers.{half, word};
 
 /// The order in which the writer of a file put the bytes of a number.
@@ -11,7 +11,7 @@ pub enum ByteOrder {
 impl ByteOrder {
     /// The number of `N` bytes at `at`.
     pub(crate) fn number_at<const N: usize>(self, bytes: &[u8], at: usize) -> u32
-        requires width { N ≤ 4 }
+        requires width { (N ≡ 2) ⊎ (N ≡ 4) }
         requires within { at + N ≤ length bytes.now }
         ensures half { N ≡ 2 → result ≡ half self bytes.now at }
         ensures word { N ≡ 4 → result ≡ word self bytes.now at }

@@ -30,7 +30,7 @@ impl Refusal {
     pub fn number(self) -> u8
         ensures value { result ≡ number self }
     {
-        // By a match: the discriminant of a variant with a payload cannot be cast.
+        // docs/RULES.md fixes the numbers. By a match: the discriminant of a variant with a payload cannot be cast.
         match self {
             Refusal::TooLong => 9,
             Refusal::NoHeader => 10,
@@ -47,6 +47,7 @@ impl Refusal {
     pub fn place(self) -> usize
         ensures value { result ≡ place self }
     {
+        // Not one trait with the other crate's refusals: the variants differ, and no code is generic over both.
         match self {
             Refusal::TooLong | Refusal::NoHeader => 0,
             Refusal::PastEnd(at)

@@ -42,7 +42,7 @@ impl Refusal {
     pub fn number(self) -> u8
         ensures value { result ≡ number_of self }
     {
-        // By a match: the discriminant of a variant with a payload cannot be cast.
+        // docs/RULES.md fixes the numbers. By a match: the discriminant of a variant with a payload cannot be cast.
         match self {
             Refusal::BadSetting(_) => 1,
             Refusal::NoShare => 2,
@@ -67,6 +67,7 @@ impl Refusal {
     pub fn place(self) -> u64
         ensures value { result ≡ place_of self }
     {
+        // Not one trait with the other crate's refusals: the variants differ, and no code is generic over both.
         match self {
             Refusal::BadSetting(setting) => setting as u64,
             Refusal::NotShown(bearer) | Refusal::PacketWaits(bearer) => bearer as u64,

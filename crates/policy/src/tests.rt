@@ -7,7 +7,7 @@ fn in_bounds<P: Policy>(policy: &P, bearer: usize, waiting: usize) -> bool
     ensures value { result ≡ true }
 {
     let quota = policy.quota(bearer, waiting);
-    1 <= quota && quota <= P::GREATEST
+    (1..=P::GREATEST).contains(&quota)
 }
 
 #[test]

@@ -1,12 +1,13 @@
 -- How what a ring holds changes: its slots, in the order in which it goes through them.
-use Rattle.std.proofs.Common.{◌≡◌, ℕ, ◌+◌, ◌-◌, ◌<◌, ◌≤◌, min, true, ltb, List, [], ◌∷◌, ◌++◌, length, get_or, take, drop, set, Some, sym, ap, ◌∙◌, ⊎_elim, arith}
+use Rattle.std.proofs.Common.{◌≡◌, ℕ, ◌+◌, ◌-◌, ◌<◌, ◌≤◌, min, true, List, [], ◌∷◌, ◌++◌, length, get_or, take, drop, set, Some, sym, ap, ◌∙◌, ⊎_elim, arith}
 use Rattle.std.specs.List.{slice_get}
 use Rattle.std.proofs.Math.Seq.{take-set-lt}
 use Rattle.std.proofs.lemmas.List.{same_lists, length-append, length-drop, length-take, get_or-drop, get_or-take, get_or_append_left, get_or-append_right, set-append_left, set-append_right, drop-set-add, drop-set-lt, take_more_set, take-set-le}
 use Rattle.std.proofs.lemmas.Option.{slice_get-get_or}
 use Rattle.std.proofs.lemmas.Bool.Decides.{nat_tests}
 use Rattle.std.proofs.lemmas.Bool.{cases_lt, cond-true, cond-false, lt-ltb, le-ltb}
-use Rattle.ring.specs.Queue.{turned, turned_place}
+use Rattle.ring.specs.declared.rings.Ring.{Ring}
+use Rattle.ring.specs.Queue.{turned, turned_place, usable, places, held, has_room}
 
 place_low : (c h i : ℕ) → i < c - h → turned_place c h i ≡ h + i
 place_low c h i a = cond-true _ _ _ (lt-ltb i (c - h) a)
@@ -61,47 +62,47 @@ module _ {X : Type 0} where
         ∙ sym (set-append_right (drop h u) (take h u) (c - h) i x behind l))
         (cases_lt i (c - h))
 
-  -- what a ring holds that uses the first of the slots s, at most so many, where its head is h and its length n
-  module _ (s : List X) (most h n c : ℕ) (e : c ≡ min most (length s)) where
-    abbrev contents : List X
-    contents = take n (turned (take most s) h)
+  -- what a ring holds
+  module _ {most : ℕ} (r : Ring X most) where
+    used : length (usable r) ≡ places r
+    used = length-take most r.slots.now
 
-    used : length (take most s) ≡ c
-    used = length-take most s ∙ sym e
+    pub length-held : length (held r) ≡ min r.len (places r)
+    length-held = omega (arith, length-take r.len (turned (usable r) r.head), length-turned (usable r) (places r) r.head used)
 
-    pub length-held : length contents ≡ min n c
-    length-held = omega (arith, length-take n (turned (take most s) h), length-turned (take most s) c h used)
+    pub room_true : min r.len (places r) < places r → has_room r ≡ true
+    room_true a = lt-ltb (length (held r)) (places r) (omega (arith, length-held))
 
-    pub room_true : min n c < c → ltb (length contents) c ≡ true
-    room_true a = lt-ltb (length contents) c (omega (arith, length-held))
-
-    pub held_at : (i j : ℕ) (x : X) → i < min n c → j ≡ turned_place c h i → j < c → x ≡ get_or s j x → Some x ≡ slice_get contents i
+    pub held_at : (i j : ℕ) (x : X) → i < min r.len (places r) → j ≡ turned_place (places r) r.head i → j < places r → x ≡ get_or r.slots.now j x →
+        Some x ≡ slice_get (held r) i
     held_at i j x a p b f =
         ap Some
-        (f ∙ sym (get_or-take most s j x (omega arith))
-        ∙ ap (λ k. get_or (take most s) k x) p
-        ∙ sym (get_or-turned (take most s) c h used i x (omega arith))
-        ∙ sym (get_or-take n (turned (take most s) h) i x (omega arith)))
-        ∙ sym (slice_get-get_or contents i x (omega (arith, length-held)))
+        (f ∙ sym (get_or-take most r.slots.now j x (omega arith))
+        ∙ ap (λ k. get_or (usable r) k x) p
+        ∙ sym (get_or-turned (usable r) (places r) r.head used i x (omega arith))
+        ∙ sym (get_or-take r.len (turned (usable r) r.head) i x (omega arith)))
+        ∙ sym (slice_get-get_or (held r) i x (omega (arith, length-held)))
 
-    pub held_push : (m j : ℕ) (x : X) → m ≡ min n c → m < c → j ≡ turned_place c h m → take (m + 1) (turned (take most (set s j x)) h) ≡ contents ++ x ∷ []
+    pub held_push : (m j : ℕ) (x : X) → m ≡ min r.len (places r) → m < places r → j ≡ turned_place (places r) r.head m →
+        take (m + 1) (turned (take most (set r.slots.now j x)) r.head) ≡ held r ++ x ∷ []
     held_push m j x a b p =
-        ap (λ k. take (m + 1) (turned (take most (set s k x)) h)) p
-        ∙ ap (λ u. take (m + 1) (turned u h)) (take-set-lt most s (turned_place c h m) x (omega (arith, place_inside c h m b)))
-        ∙ ap (take (m + 1)) (set-turned (take most s) c h used m x b)
-        ∙ take_more_set (turned (take most s) h) m x (omega (arith, length-turned (take most s) c h used))
-        ∙ ap (λ k. take k (turned (take most s) h) ++ x ∷ []) (omega arith)
+        ap (λ k. take (m + 1) (turned (take most (set r.slots.now k x)) r.head)) p
+        ∙ ap (λ u. take (m + 1) (turned u r.head)) (take-set-lt most r.slots.now (turned_place (places r) r.head m) x (omega (arith, place_inside (places r) r.head m b)))
+        ∙ ap (take (m + 1)) (set-turned (usable r) (places r) r.head used m x b)
+        ∙ take_more_set (turned (usable r) r.head) m x (omega (arith, length-turned (usable r) (places r) r.head used))
+        ∙ ap (λ k. take k (turned (usable r) r.head) ++ x ∷ []) (omega arith)
 
-    pub held_pop : (m j : ℕ) → m ≡ min n c → 0 < m → j ≡ turned_place c h 0 → take (m - 1) (turned (take most s) (j + 1)) ≡ drop 1 contents
+    pub held_pop : (m j : ℕ) → m ≡ min r.len (places r) → 0 < m → j ≡ turned_place (places r) r.head 0 →
+        take (m - 1) (turned (usable r) (j + 1)) ≡ drop 1 (held r)
     held_pop m j a b p =
-        let l : length (take (m - 1) (turned (take most s) (j + 1))) ≡ m - 1 = omega (arith, length-take (m - 1) (turned (take most s) (j + 1)), length-turned (take most s) c (j + 1) used) in
+        let l : length (take (m - 1) (turned (usable r) (j + 1))) ≡ m - 1 = omega (arith, length-take (m - 1) (turned (usable r) (j + 1)), length-turned (usable r) (places r) (j + 1) used) in
         same_lists _ _
-        (omega (arith, l, length-drop 1 contents, length-held))
+        (omega (arith, l, length-drop 1 (held r), length-held))
         (λ i d f.
-        get_or-take (m - 1) (turned (take most s) (j + 1)) i d (omega (arith, l))
-        ∙ get_or-turned (take most s) c (j + 1) used i d (omega (arith, l))
-        ∙ ap (λ k. get_or (take most s) (turned_place c (k + 1) i) d) p
-        ∙ ap (λ k. get_or (take most s) k d) (place_more c h i (omega (arith, l)))
-        ∙ sym (get_or-turned (take most s) c h used (1 + i) d (omega (arith, l)))
-        ∙ sym (get_or-take n (turned (take most s) h) (1 + i) d (omega (arith, l)))
-        ∙ sym (get_or-drop 1 contents i d))
+        get_or-take (m - 1) (turned (usable r) (j + 1)) i d (omega (arith, l))
+        ∙ get_or-turned (usable r) (places r) (j + 1) used i d (omega (arith, l))
+        ∙ ap (λ k. get_or (usable r) (turned_place (places r) (k + 1) i) d) p
+        ∙ ap (λ k. get_or (usable r) k d) (place_more (places r) r.head i (omega (arith, l)))
+        ∙ sym (get_or-turned (usable r) (places r) r.head used (1 + i) d (omega (arith, l)))
+        ∙ sym (get_or-take r.len (turned (usable r) r.head) (1 + i) d (omega (arith, l)))
+        ∙ sym (get_or-drop 1 (held r) i d))

@@ -99,7 +99,6 @@ impl<'a, T: Copy, const MOST: usize> Ring<'a, T, MOST> {
         if i >= self.len() {
             return None;
         }
-        let slots: &[T] = self.slots;
-        Some(slots[self.slot(i)])
+        Some(self.slots[self.slot(i)])
     }
 }

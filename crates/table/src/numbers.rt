@@ -4,6 +4,7 @@ use crate::texts::Text;
 use itoa::Buffer;
 
 /// How many digits `n` has.
+// Beside `text_len`, which says nothing of the bounds.
 #[tactic(auto, using(std::proofs::lemmas::Fmt::decimal_nonempty))]
 pub fn number_len(n: u64) -> usize
     ensures value { result ≡ length (decimal n) }

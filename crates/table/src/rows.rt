@@ -13,7 +13,7 @@ impl Text for &[Field] {
 
     #[tactic(auto, using(crate::proofs::Columns::lengths))]
     fn text_len(self) -> usize {
-        // No chain: `sum` asks for a proof by hand that the total fits, the loop's invariant shows it.
+        // No chain: of `sum` and `try_fold` it is not proved that the total fits, of the loop it is.
         let mut len = self.len().saturating_sub(1) + ROW_END.len();
         for field in self {
             len += field.text_len();
