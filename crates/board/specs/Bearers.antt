@@ -13,6 +13,10 @@ pub record Bearer : Type 0 where
 abbrev pub absent : Bearer
 absent = record { depth = 0; cost = 0; waiting = []; armed = false; signal = false }
 
+-- what stands for a packet that is not there
+abbrev pub blank : Packet
+blank = record { number = 0; length = 0; tag = 0 }
+
 -- the bearer of this number
 abbrev pub bearer_of : List Bearer → ℕ → Bearer
 bearer_of bs b = slice_index_or bs b absent

@@ -4,9 +4,7 @@ use Rattle.std.specs.List.{find, range_with_len}
 use Rattle.std.specs.Option.{option_flatten}
 use Rattle.board.specs.declared.packets.Packet.{Packet}
 use Rattle.board.specs.declared.mailboxes.Held.{Held}
-
-abbrev pub blank : Packet
-blank = record { number = 0; length = 0; tag = 0 }
+use Rattle.board.specs.Bearers.{blank}
 
 abbrev pub is_used : Option Held → Bool
 is_used None = false

@@ -1,4 +1,4 @@
-ghost use Rattle.std.specs.Prelude.{◌≡◌, ℕ, ◌≤◌, Bool, true, List, ◌∷◌, [], ◌++◌, length, drop, min, nat_lt, if◌then◌else◌, Ok, Err};
+ghost use Rattle.std.specs.Prelude.{◌≡◌, ℕ, ◌≤◌, Bool, true, List, ◌∷◌, [], ◌++◌, length, drop, if◌then◌else◌, Ok, Err};
 ghost use Rattle.std.specs.List.{slice_get};
 ghost use Rattle.std.proofs.Common.{rules};
 ghost use Rattle.ring.specs.Queue.{beyond, places, held};

@@ -1,4 +1,4 @@
-ghost use Rattle.std.specs.Prelude.{◌≡◌, true, false, not, min, [], map, position, Some, ⊤};
+ghost use Rattle.std.specs.Prelude.{◌≡◌, false, not, min, [], map, position, ⊤};
 ghost use Rattle.std.proofs.Common.{rules};
 ghost use Rattle.std.proofs.lemmas.List.{length-take};
 ghost use Rattle.board.specs.Line.{is_used, has_place, held_at, advanced, mail_packets, mail_room};

@@ -1,4 +1,4 @@
-ghost use Rattle.std.specs.Prelude.{◌≡◌, ◌≢◌, min, Bool, true, false, [], ◌∷◌, length};
+ghost use Rattle.std.specs.Prelude.{◌≡◌, ◌≢◌, min, Bool, false, [], ◌∷◌, length};
 ghost use Rattle.std.specs.List.{slice_get};
 ghost use Rattle.board.specs.Bearers.{bearer_of, has_room, changed, after_offer, after_take, after_arm, after_disarm};
 ghost use Rattle.board.specs.Shown.{shown, ring_bearer, mailbox_bearer};

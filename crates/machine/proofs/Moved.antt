@@ -3,7 +3,7 @@ use Rattle.std.proofs.Common.{◌≡◌, ℕ, ◌+◌, ◌-◌, ◌<◌, ◌≤�
 use Rattle.std.specs.List.{slice_get}
 use Rattle.std.proofs.lemmas.Bool.{cond_both, cond-true, cond-false, ltb-true, leb-true, eqb-true, eqb-false, and_parts}
 use Rattle.board.specs.declared.packets.Packet.{Packet}
-use Rattle.board.specs.Bearers.{Bearer, bearer_of, changed, has_room, any_waiting, after_offer, after_arm, after_disarm}
+use Rattle.board.specs.Bearers.{blank, Bearer, bearer_of, changed, has_room, any_waiting, after_offer, after_arm, after_disarm}
 use Rattle.board.specs.Costs.{cost_of_length}
 use Rattle.board.proofs.Changes.{bearer_changed, changed_twice}
 use Rattle.machine.specs.declared.answers.Answer.{Answer}
@@ -16,7 +16,7 @@ use Rattle.machine.specs.declared.refusals.Refusal.{Refusal}
 use Rattle.machine.specs.State.{Grant, Core, State, idle, running, Batches, waits, holds, is_open}
 use Rattle.machine.specs.Settings.{Check, first, settings_checks, grant_bound}
 use Rattle.machine.specs.Moves.{join, charge, offer_cycles, set_gate, one_numbered, one_bearer_full, one_queue_full}
-use Rattle.machine.specs.Calls.{blank, next_packet, left_with, taken_off, heard, arrive, begin, has_queue_room, high_marked, paid, take_by, close, serve, work, fetch, finish, discard, tell}
+use Rattle.machine.specs.Calls.{next_packet, left_with, taken_off, heard, arrive, begin, has_queue_room, high_marked, paid, take_by, close, serve, work, fetch, finish, discard, tell}
 use Rattle.machine.specs.Machine.{unless, any_left, no_counts, fresh, waiting_checks, configure_checks, idle_call, arrive_checks, step_checks, work_checks, fetch_checks, out_checks, step_by, checked, running_call, call}
 use Rattle.machine.proofs.Basics.{tested, changed_same, none_left}
 

@@ -2,7 +2,7 @@
 use Rattle.std.specs.Prelude.{ℕ, ◌+◌, ◌-◌, Bool, cond, List, [], ◌∷◌, ◌++◌, length, drop, Some, None, Option, ◌==◌, nat_le, nat_lt, slice_index_or}
 use Rattle.std.specs.List.{slice_get}
 use Rattle.board.specs.declared.packets.Packet.{Packet}
-use Rattle.board.specs.Bearers.{bearer_of, changed, has_room, any_waiting, after_offer, after_take}
+use Rattle.board.specs.Bearers.{blank, bearer_of, changed, has_room, any_waiting, after_offer, after_take}
 use Rattle.board.specs.Costs.{cost_of_length}
 use Rattle.machine.specs.declared.answers.Answer.{Answer}
 use Rattle.machine.specs.declared.answers.Answer.TheVariants.{Arrived, Stepped, Worked, Fetched, Finished, Discarded, Told}
@@ -15,9 +15,6 @@ use Rattle.machine.specs.Moves.{arm, disarm, join, charge, offer_cycles, one_num
 abbrev pub without : ℕ → List ℕ → List ℕ
 without n [] = []
 without n (m ∷ ms) = cond (m == n) ms (m ∷ without n ms)
-
-abbrev pub blank : Packet
-blank = record { number = 0; length = 0; tag = 0 }
 
 -- a packet that arrives gets the next number and is offered to its bearer
 abbrev pub next_packet : ℕ → ℕ → Core → Packet
