@@ -1,8 +1,8 @@
 -- What a mailbox shows of its line, before and after a push or a pop.
-use Rattle.std.proofs.Common.{◌≡◌, ℕ, ◌+◌, ◌-◌, ◌<◌, ◌≤◌, min, true, false, cond, not, List, [], ◌∷◌, ◌++◌, map, length, get_or, drop, set, Some, None, Option, sym, ap, ◌∙◌, arith}
+use Rattle.std.proofs.Common.{◌≡◌, ℕ, ◌+◌, ◌-◌, ◌<◌, ◌≤◌, min, cond, not, List, [], ◌∷◌, ◌++◌, map, length, get_or, drop, set, Some, None, Option, sym, ap, ◌∙◌, arith}
 use Rattle.std.specs.List.{position, slice_get}
 use Rattle.std.proofs.lemmas.List.{take_all}
-use Rattle.std.proofs.lemmas.Bool.{cond-true, lt-ltb, le-ltb}
+use Rattle.std.proofs.lemmas.Bool.{cond-true, cond-false, lt-ltb, le-ltb}
 use Rattle.board.specs.declared.packets.Packet.{Packet}
 use Rattle.board.specs.declared.mailboxes.Held.{Held}
 use Rattle.board.specs.Bearers.{any_room}
@@ -24,11 +24,12 @@ module _ {s : List (Option Held)} {d n : ℕ} {m : Mail} (is : record { depth = 
   pub length_shown : n ≡ length (mail_packets m)
   length_shown = sym (ap length packets_are ∙ length-line s n)
 
-  pub has_room : n < d → any_room (mail_packets m) (mail_room m) ≡ true
-  has_room l = lt-ltb _ _ (omega (arith, length_shown, room_is))
+  -- what a push gives where there is room, and where there is none
+  pub accepted : {X : Type 0} (a b : X) → n < d → a ≡ cond (any_room (mail_packets m) (mail_room m)) a b
+  accepted a b l = sym (cond-true _ a b (lt-ltb _ _ (omega (arith, length_shown, room_is))))
 
-  pub is_full : d ≤ n → any_room (mail_packets m) (mail_room m) ≡ false
-  is_full l = le-ltb _ _ (omega (arith, length_shown, room_is))
+  pub refused : {X : Type 0} (a b : X) → d ≤ n → b ≡ cond (any_room (mail_packets m) (mail_room m)) a b
+  refused a b l = sym (cond-false _ a b (le-ltb _ _ (omega (arith, length_shown, room_is))))
 
   pub pushed : (j : ℕ) (p : Packet) → n < d → (j < length s) × (get_or s j None ≡ None) →
       mail_packets (record { depth = d; packets = line (set s j (Some (record { packet = p; place = n }))) (n + 1) })
@@ -37,7 +38,7 @@ module _ {s : List (Option Held)} {d n : ℕ} {m : Mail} (is : record { depth = 
       shows_all (set s j (Some (record { packet = p; place = n }))) d (n + 1) kept.0 (omega arith)
       ∙ line_put s j n p free.0 free.1 kept.2
       ∙ ap (λ ps. ps ++ p ∷ []) (sym packets_are)
-      ∙ sym (cond-true _ _ _ (has_room l))
+      ∙ accepted _ _ l
 
   pub kept_pushed : (j : ℕ) (p : Packet) → n < d → (j < length s) × (get_or s j None ≡ None) →
       (d ≤ 16) × (n + 1 ≤ d) × Numbers (set s j (Some (record { packet = p; place = n }))) (n + 1)
