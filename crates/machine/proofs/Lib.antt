@@ -4,3 +4,4 @@ pub mod Loads
 pub mod Moved
 pub mod Runs
 pub mod Tidy
+pub mod Unmoved

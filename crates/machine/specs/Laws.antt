@@ -1,5 +1,5 @@
 -- Laws of every list of calls, made on a receiver just put up. Those are proved that the contract of `laws` names. Each law speaks of a policy, of the bearers that the board showed then, and of a trace.
-use Rattle.std.specs.Prelude.{◌≡◌, ℕ, ◌+◌, ◌<◌, ◌≤◌, Bool, true, false, cond, ◌≢◌, List, [], ◌∷◌, ◌++◌, map, length, Some, None, Ok, Err, Option, Result, ◌==◌, nat_lt, slice_index}
+use Rattle.std.specs.Prelude.{◌≡◌, ℕ, ◌+◌, ◌<◌, ◌≤◌, Bool, true, false, cond, ◌≢◌, List, [], ◌∷◌, ◌++◌, map, length, Some, None, Ok, Err, Option, Result, ◌==◌, nat_lt}
 use Rattle.std.specs.List.{slice_get, flat_map, sum_by}
 use Rattle.board.specs.declared.packets.Packet.{Packet}
 use Rattle.board.specs.Bearers.{Bearer, bearer_of}
@@ -187,10 +187,10 @@ fetches = flat_map (λ (e : Entry). if_accepted fetched_by e.answered)
 abbrev pub arrivals : ℕ → List Entry → List ℕ
 arrivals b = flat_map (λ (e : Entry). cond (comes_on b e.asked) (if_accepted arrived_by e.answered) [])
 
--- ARRIVAL ORDER. Of two packets fetched, both of which arrived on one bearer, the one fetched first has the smaller number: it arrived first.
+-- ARRIVAL ORDER. Of two packets fetched, both of which arrived on one bearer, the one fetched first arrived first.
 abbrev pub ArrivalOrder : Law
 ArrivalOrder p bs es =
-    (b i j : ℕ) → i < j → j < length (fetches es) →
-    holds (slice_index (fetches es) i) (arrivals b es) ≡ true →
-    holds (slice_index (fetches es) j) (arrivals b es) ≡ true →
-    slice_index (fetches es) i < slice_index (fetches es) j
+    (b i j k l m n : ℕ) → i < j →
+    slice_get (fetches es) i ≡ Some m → slice_get (arrivals b es) k ≡ Some m →
+    slice_get (fetches es) j ≡ Some n → slice_get (arrivals b es) l ≡ Some n →
+    k < l
