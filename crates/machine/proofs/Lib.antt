@@ -1,7 +1,9 @@
+pub mod Agreement
 pub mod Basics
 pub mod Gate
 pub mod Loads
 pub mod Moved
 pub mod Runs
+pub mod Tally
 pub mod Tidy
 pub mod Unmoved

@@ -1,13 +1,13 @@
 -- What holds of every list of calls: an invariant of the entries so far and of the receiver, kept by whatever a call comes to.
-use Rattle.std.proofs.Common.{◌≡◌, List, [], ◌∷◌, ◌++◌, Result, sym, refl, subst, append_assoc, append-nil}
+use Rattle.std.proofs.Common.{◌≡◌, List, [], ◌∷◌, ◌++◌, Result, sym, refl, subst, append_assoc, append-nil, Err}
 use Rattle.machine.specs.declared.answers.Answer.{Answer}
 use Rattle.machine.specs.declared.calls.Call.{Call}
 use Rattle.machine.specs.declared.calls.RawSettings.{RawSettings}
 use Rattle.machine.specs.declared.refusals.Refusal.{Refusal}
 use Rattle.machine.specs.State.{Core, State, idle, running, Batches}
 use Rattle.machine.specs.Trace.{Entry, trace, end_of, Throughout}
-use Rattle.machine.specs.Laws.{OnceRunning}
-use Rattle.machine.proofs.Moved.{Happens, happens}
+use Rattle.machine.specs.Laws.{OnceRunning, Always, RefusalsLeave}
+use Rattle.machine.proofs.Moved.{Happens, happens, refused, asked_idle, configured, moved}
 
 -- one call, and what it came to
 abbrev pub made : State → Call → Result Answer Refusal → State → Entry
@@ -68,3 +68,15 @@ module _ (p : Batches) where
 pub if_running : (Q : State → Type 0) {P : RawSettings → Core → Type 0} → ((s : RawSettings) (x : Core) → Q (running s x) → P s x) → (t : State) → Q t → OnceRunning t P
 if_running Q f (idle bs) q = tt
 if_running Q f (running s x) q = f s x q
+
+-- a refused call leaves all as it was
+refused_same : (p : Batches) (t u : State) (c : Call) (r : Result Answer Refusal) (q : Refusal) → Happens p t c r u → r ≡ Err q → u ≡ t
+refused_same _ _ _ _ _ _ refused e = refl
+refused_same _ _ _ _ _ _ asked_idle e = cc e
+refused_same _ _ _ _ _ _ (configured ranges empty share) e = cc e
+refused_same _ _ _ _ _ _ (moved m) e = cc e
+
+pub refusals_leave : Always RefusalsLeave
+refusals_leave p _ bs cs before after e r h a =
+    let k = each_call p (λ _ _. Unit {0}) (λ _ _ _ _ _ _ _. tt) (idle bs) tt cs before after e h in
+    refused_same p e.before e.after e.asked e.answered r k.comes a

@@ -47,13 +47,23 @@ module _ (x : Core) where
       (λ _. cond_both (any_waiting (waits y.bearers b)) _ _ (Unmoved x)
       (λ _. record {
         bearers = rearmed after_disarm (λ _. refl) (arm b y).bearers b ∙ armed;
-        clock = u.clock; hold = u.hold; grant = u.grant; queue = u.queue; out = u.out; counts = u.counts;
+        clock = u.clock;
+        hold = u.hold;
+        grant = u.grant;
+        queue = u.queue;
+        out = u.out;
+        counts = u.counts;
         joined = u.joined ++ b ∷ [];
         listed = ap (λ l. l ++ b ∷ []) u.listed ∙ append_assoc x.listed u.joined (b ∷ []);
       })
       (λ _. record {
         bearers = armed;
-        clock = u.clock; hold = u.hold; grant = u.grant; queue = u.queue; out = u.out; counts = u.counts;
+        clock = u.clock;
+        hold = u.hold;
+        grant = u.grant;
+        queue = u.queue;
+        out = u.out;
+        counts = u.counts;
         joined = u.joined;
         listed = u.listed;
       }))

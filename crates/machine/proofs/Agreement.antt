@@ -1,0 +1,76 @@
+-- Over every list of calls the receiver agrees with the ledger, and answers true to it.
+use Rattle.std.proofs.Common.{◌≡◌, ℕ, List, [], ◌∷◌, ◌++◌, map, length, replicate, Result, refl, sym, ap, subst, false, ◌+◌}
+use Rattle.board.specs.Bearers.{Bearer, after_arm, after_disarm, any_waiting}
+use Rattle.machine.specs.declared.answers.Answer.{Answer}
+use Rattle.machine.specs.declared.calls.Call.{Call}
+use Rattle.machine.specs.declared.calls.RawSettings.{RawSettings}
+use Rattle.machine.specs.declared.refusals.Refusal.{Refusal}
+use Rattle.machine.specs.State.{State, idle, running, Batches}
+use Rattle.machine.specs.Machine.{fresh, waiting_checks}
+use Rattle.machine.specs.Trace.{Entry}
+use Rattle.machine.specs.Ledger.{Ledger, nothing, told, depths_of, ledger, counts_of, accepted}
+use Rattle.machine.specs.Laws.{Always, LedgerAgrees, Truly, TrueAnswers}
+use Rattle.machine.proofs.Moved.{Passed, Happens, refused, asked_idle, configured, moved}
+use Rattle.machine.proofs.Runs.{made, throughout, each_call, if_running}
+use Rattle.machine.proofs.Tally.{numbers_in, depth_of, TallyCore, move_tally, move_true, gate_tally}
+use Rattle.std.proofs.lemmas.List.Sums.{fold_push}
+use Rattle.machine.proofs.Basics.{none_left}
+use Rattle.std.proofs.lemmas.Bool.{not-true}
+
+-- before it is configured, the ledger is empty
+abbrev TallyState : List ℕ → State → Ledger → Type 0
+TallyState depths (idle bs) l = (l ≡ nothing (length bs)) × (depths_of bs ≡ depths)
+TallyState depths (running s x) l = TallyCore depths s x l
+
+-- a receiver just configured
+fresh_waiting : (i : ℕ) (bs : List Bearer) → Passed (waiting_checks i bs) → map numbers_in (map (λ v. after_arm false (after_disarm v)) bs) ≡ replicate (length bs) []
+fresh_waiting i [] h = refl
+fresh_waiting i (v ∷ bs) h = cc (none_left v.waiting (not-true (any_waiting v.waiting) h.0), fresh_waiting (i + 1) bs h.1)
+
+fresh_depths : (bs : List Bearer) → map depth_of (map (λ v. after_arm false (after_disarm v)) bs) ≡ depths_of bs
+fresh_depths [] = refl
+fresh_depths (v ∷ bs) = ap (λ ds. v.depth ∷ ds) (fresh_depths bs)
+
+fresh_tally : (s : RawSettings) (bs : List Bearer) → Passed (waiting_checks 0 bs) → TallyCore (depths_of bs) s (fresh bs) (record (nothing (length bs)) { size = s.size })
+fresh_tally s bs h = record { waiting = fresh_waiting 0 bs h; depths_are = fresh_depths bs; serving = tt; size_is = refl; queue = refl; out = refl; counts = refl }
+
+module _ (p : Batches) (depths : List ℕ) where
+  keeps_tally : (t u : State) (c : Call) (r : Result Answer Refusal) (l : Ledger) → TallyState depths t l → Happens p t c r u → TallyState depths u (told depths c r l)
+  keeps_tally _ _ _ _ l i refused = i
+  keeps_tally _ _ _ _ l i asked_idle = i
+  keeps_tally _ _ _ _ l i (configured {bs = bs} {s = s} ranges empty share) =
+      subst (λ ds. TallyCore ds s (fresh bs) (record l { size = s.size })) i.1
+      (subst (λ (k : Ledger). TallyCore (depths_of bs) s (fresh bs) (record k { size = s.size })) (sym i.0) (fresh_tally s bs empty))
+  keeps_tally _ _ _ _ l i (moved {s = s} {x = x} {y = y} {c = c} {a = a} m) = gate_tally depths s x y (accepted depths c a l) (move_tally s p x depths l i c a y m)
+
+  answers_true : (t u : State) (c : Call) (r : Result Answer Refusal) (l : Ledger) → TallyState depths t l → Happens p t c r u → Truly depths c r l
+  answers_true _ _ _ _ l i refused = tt
+  answers_true _ _ _ _ l i (asked_idle {bs = bs}) = (_, refl, ap counts_of (sym i.0))
+  answers_true _ _ _ _ l i (configured ranges empty share) = refl
+  answers_true _ _ _ _ l i (moved {s = s} {x = x} {y = y} {c = c} {a = a} m) = move_true s p x depths l i c a y m
+
+-- the ledger of a call more
+pub ledger_push : (bs : List Bearer) (es : List Entry) (e : Entry) → ledger bs (es ++ e ∷ []) ≡ told (depths_of bs) e.asked e.answered (ledger bs es)
+unfolding ledger
+ledger_push bs es e = fold_push _ (nothing (length bs)) es e
+
+-- the invariant of every list of calls
+module _ (p : Batches) (bs : List Bearer) where
+  abbrev Agreeing : List Entry → State → Type 0
+  Agreeing es t = TallyState (depths_of bs) t (ledger bs es)
+
+  starts_agreeing : Agreeing [] (idle bs)
+  unfolding ledger
+  starts_agreeing = (refl, refl)
+
+  keeps_agreeing : (es : List Entry) (t u : State) (c : Call) (r : Result Answer Refusal) → Agreeing es t → Happens p t c r u → Agreeing (es ++ made t c r u ∷ []) u
+  keeps_agreeing es t u c r i h = subst (TallyState (depths_of bs) u) (sym (ledger_push bs es (made t c r u))) (keeps_tally p (depths_of bs) t u c r (ledger bs es) i h)
+
+pub ledger_agrees : Always LedgerAgrees
+ledger_agrees p _ bs cs before after e = if_running (Agreeing p bs before) (λ s x t. record { waiting = t.waiting; queue = t.queue; out = t.out; counts = t.counts }) _
+    (throughout p (Agreeing p bs) (keeps_agreeing p bs) (idle bs) (starts_agreeing p bs) cs before after e)
+
+pub true_answers : Always TrueAnswers
+true_answers p _ bs cs before after e h =
+    let k = each_call p (Agreeing p bs) (keeps_agreeing p bs) (idle bs) (starts_agreeing p bs) cs before after e h in
+    answers_true p (depths_of bs) e.before e.after e.asked e.answered (ledger bs before) k.held k.comes
