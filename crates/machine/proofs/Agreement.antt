@@ -13,7 +13,7 @@ use Rattle.machine.specs.Laws.{Always, LedgerAgrees, Truly, TrueAnswers}
 use Rattle.machine.proofs.Moved.{Passed, Happens, refused, asked_idle, configured, moved}
 use Rattle.machine.proofs.Runs.{made, throughout, each_call, if_running}
 use Rattle.machine.proofs.Tally.{numbers_in, depth_of, TallyCore, move_tally, move_true, gate_tally}
-use Rattle.std.proofs.lemmas.List.Sums.{fold_push}
+use Rattle.machine.proofs.Pushed.{ledger_push}
 use Rattle.machine.proofs.Basics.{none_left}
 use Rattle.std.proofs.lemmas.Bool.{not-true}
 
@@ -48,11 +48,6 @@ module _ (p : Batches) (depths : List ℕ) where
   answers_true _ _ _ _ l i (asked_idle {bs = bs}) = (_, refl, ap counts_of (sym i.0))
   answers_true _ _ _ _ l i (configured ranges empty share) = refl
   answers_true _ _ _ _ l i (moved {s = s} {x = x} {y = y} {c = c} {a = a} m) = move_true s p x depths l i c a y m
-
--- the ledger of a call more
-pub ledger_push : (bs : List Bearer) (es : List Entry) (e : Entry) → ledger bs (es ++ e ∷ []) ≡ told (depths_of bs) e.asked e.answered (ledger bs es)
-unfolding ledger
-ledger_push bs es e = fold_push _ (nothing (length bs)) es e
 
 -- the invariant of every list of calls
 module _ (p : Batches) (bs : List Bearer) where

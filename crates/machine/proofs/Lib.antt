@@ -3,7 +3,11 @@ pub mod Basics
 pub mod Gate
 pub mod Loads
 pub mod Moved
+pub mod Places
+pub mod Proved
+pub mod Pushed
 pub mod Runs
 pub mod Tally
 pub mod Tidy
+pub mod Turns
 pub mod Unmoved

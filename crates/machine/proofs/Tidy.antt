@@ -124,7 +124,7 @@ keeps_tidy p _ _ _ _ i asked_idle = tt
 keeps_tidy p _ _ _ _ i (configured {bs = bs} {s = s} ranges empty share) = fresh_tidy s bs ranges empty
 keeps_tidy p _ _ _ _ i (moved {s = s} {x = x} {y = y} {c = c} {a = a} m) = gate_tidy s x y (move_tidy s p x i c a y m)
 
-tidy_heard : (s : RawSettings) (x : Core) → TidyCore (is_open s x) x → Heard s x
+pub tidy_heard : (s : RawSettings) (x : Core) → TidyCore (is_open s x) x → Heard s x
 tidy_heard s x t = record {
   armed_empty = λ b. (t.calm b).empty;
   waiting_busy = λ o b w. true_from_ne_false (busy x b) (λ free. w (unheard o b free));

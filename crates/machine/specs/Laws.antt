@@ -96,13 +96,12 @@ begun_on b (Ok a) = begun_by b (progress_in a)
 abbrev pub begins : ℕ → List Entry → ℕ
 begins b = sum_by (λ (e : Entry). begun_on b e.answered)
 
--- EQUAL TURNS. Wherever the trace is cut into before, stretch and after, and two bearers have packets at the stretch's start and after each of its calls,
--- the grants begun on the one in the stretch are at most one more than those on the other.
+-- EQUAL TURNS. Wherever the trace is cut into before, stretch and after, and a bearer has packets at the stretch's start and after each of its calls, no other
+-- bearer begins more than one grant more in the stretch. So of two such bearers each begins at most one more than the other.
 abbrev pub EqualTurns : Law
 EqualTurns p bs es =
     (before stretch after : List Entry) → es ≡ before ++ (stretch ++ after) →
     (b c : ℕ) → b ≢ c →
-    Waiting b (end_of (idle bs) before) → AlwaysWaiting b stretch →
     Waiting c (end_of (idle bs) before) → AlwaysWaiting c stretch →
     begins b stretch ≤ begins c stretch + 1
 
