@@ -3,11 +3,15 @@ pub mod Basics
 pub mod Gate
 pub mod Loads
 pub mod Moved
+pub mod Periods
 pub mod Places
 pub mod Proved
 pub mod Pushed
 pub mod Runs
+pub mod Share
+pub mod Sharp
 pub mod Tally
 pub mod Tidy
 pub mod Turns
 pub mod Unmoved
+pub mod Worked

@@ -1,9 +1,11 @@
 pub mod Calls
+pub mod Examples
 pub mod Laws
 pub mod Ledger
 pub mod Machine
 pub mod Moves
 pub mod Refusals
 pub mod Settings
+pub mod Sharp
 pub mod State
 pub mod Trace

@@ -14,4 +14,4 @@ mod theorems;
 pub use answers::{Answer, Arrival, Counts, Period, Progress, Report};
 pub use calls::{Call, RawSettings, Setting};
 pub use refusals::Refusal;
-pub use theorems::laws;
+pub use theorems::{examples, laws};

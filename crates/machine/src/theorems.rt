@@ -1,13 +1,28 @@
-ghost use Rattle.machine.specs.Laws.{Always, EqualTurns, LedgerAgrees, NeverDeaf, OnePlace, Quiet, RefusalsLeave, TrueAnswers};
+ghost use Rattle.machine.specs.Examples.{replayed, standard_board, four, examples};
+ghost use Rattle.machine.specs.Laws.{Always, EqualTurns, LedgerAgrees, NeverDeaf, OnePlace, Quiet, RefusalsLeave, Share, TrueAnswers};
+ghost use Rattle.machine.specs.Settings.{grant_bound};
+ghost use Rattle.machine.specs.Sharp.{Sometimes, ShareMet};
+ghost use Rattle.machine.specs.State.{idle};
+ghost use Rattle.std.specs.Prelude.{◌≡◌, map};
 
 /// Carries in its contract the laws of the state machine: each is proved for every list of calls. It does nothing.
 #[tactic(auto, using(crate::proofs::Proved::every_law))]
 pub fn laws()
     ensures refusals_leave { Always RefusalsLeave }
+    ensures share { Always Share }
     ensures one_place { Always OnePlace }
     ensures ledger_agrees { Always LedgerAgrees }
     ensures true_answers { Always TrueAnswers }
     ensures never_deaf { Always NeverDeaf }
     ensures equal_turns { Always EqualTurns }
     ensures quiet { Always Quiet }
+{}
+
+/// Carries in its contract what runs of the state machine come to: the worked examples, and one run that meets the bound of
+/// the application's share. It does nothing.
+#[tactic(auto, using(crate::proofs::Worked::as_written, crate::proofs::Sharp::share_met))]
+pub fn examples()
+    ensures as_written { map (replayed four (idle standard_board)) examples ≡ examples }
+    ensures grant_bound { grant_bound four standard_board ≡ 25040 }
+    ensures share_met { Sometimes ShareMet }
 {}

@@ -1,0 +1,48 @@
+-- The accounts of the periods: what each offered the application, and what bearers may still use in the open one.
+use Rattle.std.proofs.Common.{◌≡◌, ℕ, ◌+◌, ◌<◌, ◌≤◌, cond, eqb, arith}
+use Rattle.std.proofs.lemmas.Bool.{cond_both, leb-true}
+use Rattle.machine.specs.declared.calls.RawSettings.{RawSettings}
+use Rattle.machine.specs.State.{Clock}
+use Rattle.machine.specs.Moves.{is_over, next_period}
+
+-- the accounts h are the accounts f with o cycles more offered in the open period
+pub record Booked (f : ℕ → ℕ) (k : Clock) (o : ℕ) (h : ℕ → ℕ) : Type 0 where
+  pub each : (j : ℕ) → h j ≡ f j + cond (eqb k.closed j) o 0
+
+module _ (s : RawSettings) where
+  -- the clock, with the period closed if it is over
+  abbrev pub settled : Clock → Clock
+  settled k = cond (is_over s k) (next_period s k) k
+
+  module _ (most : ℕ) where
+    -- the accounts f agree with the clock; what bearers have used and what is due are together below `most`, and each closed period offered all the rest
+    pub record Accounts (f : ℕ → ℕ) (k : Clock) (due : ℕ) : Type 0 where
+      pub spent : k.elapsed ≡ k.used + f k.closed
+      pub fits : f k.closed ≤ s.period
+      pub bound : k.used + due + 1 ≤ most
+      pub before : (j : ℕ) → j < k.closed → s.period + 1 ≤ f j + most
+      pub later : (j : ℕ) → k.closed < j → f j ≡ 0
+
+    -- time goes on in the period, with o cycles offered
+    pub runs_on : {f h : ℕ → ℕ} {k l : Clock} {due left o : ℕ} → Accounts f k due → Booked f k o h → l.closed ≡ k.closed →
+        l.elapsed + k.used ≡ k.elapsed + l.used + o → l.used + left + 1 ≤ most → f k.closed + o ≤ s.period → Accounts h l left
+    runs_on {k = k} {l = l} a b c e u w = record {
+      spent = grind (arith, a.spent, b.each l.closed);
+      fits = grind (arith, b.each l.closed);
+      bound = u;
+      before = λ j i. grind (arith, a.before j, b.each j);
+      later = λ j i. grind (arith, a.later j, b.each j);
+    }
+
+    -- a period that closes offered what bearers did not use
+    pub settles : {f : ℕ → ℕ} {due : ℕ} (k : Clock) → Accounts f k due → Accounts f (settled k) due
+    settles {f = f} {due = due} k a = cond_both (is_over s k) _ _ (λ (l : Clock). Accounts f l due) (λ e. closes (leb-true s.period k.elapsed e)) (λ _. a)
+      where
+        closes : s.period ≤ k.elapsed → Accounts f (next_period s k) due
+        closes i = record {
+          spent = omega (arith, a.spent, a.fits, a.later (k.closed + 1));
+          fits = omega (arith, a.later (k.closed + 1));
+          bound = omega (arith, a.spent, a.fits, a.bound);
+          before = λ j l. grind (arith, a.before j, a.spent, a.bound);
+          later = λ j l. a.later j (omega arith);
+        }

@@ -1,0 +1,11 @@
+-- The worked examples, made by the machine.
+use Rattle.std.proofs.Common.{◌≡◌, map, refl}
+use Rattle.machine.specs.State.{idle}
+use Rattle.machine.specs.Moves.{open_gate, shut_gate, set_gate}
+use Rattle.machine.specs.Calls.{arrive, begin, serve, fetch}
+use Rattle.machine.specs.Machine.{call}
+use Rattle.machine.specs.Examples.{replayed, standard_board, four, examples}
+
+pub as_written : map (replayed four (idle standard_board)) examples ≡ examples
+unfolding call arrive begin serve fetch open_gate shut_gate set_gate
+as_written = refl
