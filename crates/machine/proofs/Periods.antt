@@ -1,13 +1,27 @@
 -- The accounts of the periods: what each offered the application, and what bearers may still use in the open one.
-use Rattle.std.proofs.Common.{◌≡◌, ℕ, ◌+◌, ◌<◌, ◌≤◌, cond, eqb, arith}
-use Rattle.std.proofs.lemmas.Bool.{cond_both, leb-true}
+use Rattle.std.proofs.Common.{◌≡◌, ℕ, ◌+◌, ◌<◌, ◌≤◌, cond, eqb, arith, ◌-◌, ◌∙◌, refl, sym, ap, Some, None}
+use Rattle.std.proofs.lemmas.Bool.{cond_both, leb-true, eqb-true, eqb-false}
 use Rattle.machine.specs.declared.calls.RawSettings.{RawSettings}
 use Rattle.machine.specs.State.{Clock}
 use Rattle.machine.specs.Moves.{is_over, next_period}
+use Rattle.machine.specs.Laws.{period_record, last_record}
+use Rattle.machine.proofs.Basics.{tested}
 
 -- the accounts h are the accounts f with o cycles more offered in the open period
 pub record Booked (f : ℕ → ℕ) (k : Clock) (o : ℕ) (h : ℕ → ℕ) : Type 0 where
   pub each : (j : ℕ) → h j ≡ f j + cond (eqb k.closed j) o 0
+
+-- what the open period is offered changes no record; and a period that closes is recorded
+same_record : (period : ℕ) (f h : ℕ → ℕ) (n : ℕ) → ((n ≡ 0 → ⊥) → h (n - 1) ≡ f (n - 1)) → last_record period f n ≡ last_record period h n
+same_record period f h n e =
+    tested (λ t. cond t None (Some (period_record period (f (n - 1)))) ≡ cond t None (Some (period_record period (h (n - 1))))) (eqb n 0)
+    (λ _. refl) (λ z. ap (λ o. Some (period_record period o)) (sym (e (eqb-false n 0 z))))
+
+next_record : (period : ℕ) (f : ℕ → ℕ) (n o : ℕ) → o ≡ f n → Some (period_record period o) ≡ last_record period f (n + 1)
+next_record period f n o e =
+    tested (λ t. Some (period_record period o) ≡ cond t None (Some (period_record period (f (n + 1 - 1))))) (eqb (n + 1) 0)
+    (λ z. absurd (omega (arith, eqb-true (n + 1) 0 z)))
+    (λ _. ap (λ o. Some (period_record period o)) (e ∙ ap f (omega arith)))
 
 module _ (s : RawSettings) where
   -- the clock, with the period closed if it is over
@@ -18,6 +32,8 @@ module _ (s : RawSettings) where
     -- the accounts f agree with the clock; what bearers have used and what is due are together below `most`, and each closed period offered all the rest
     pub record Accounts (f : ℕ → ℕ) (k : Clock) (due : ℕ) : Type 0 where
       pub spent : k.elapsed ≡ k.used + f k.closed
+      pub offered : k.offered ≡ f k.closed
+      pub recorded : k.last ≡ last_record s.period f k.closed
       pub fits : f k.closed ≤ s.period
       pub bound : k.used + due + 1 ≤ most
       pub before : (j : ℕ) → j < k.closed → s.period + 1 ≤ f j + most
@@ -25,9 +41,11 @@ module _ (s : RawSettings) where
 
     -- time goes on in the period, with o cycles offered
     pub runs_on : {f h : ℕ → ℕ} {k l : Clock} {due left o : ℕ} → Accounts f k due → Booked f k o h → l.closed ≡ k.closed →
-        l.elapsed + k.used ≡ k.elapsed + l.used + o → l.used + left + 1 ≤ most → f k.closed + o ≤ s.period → Accounts h l left
-    runs_on {k = k} {l = l} a b c e u w = record {
+        l.offered ≡ k.offered + o → l.last ≡ k.last → l.elapsed + k.used ≡ k.elapsed + l.used + o → l.used + left + 1 ≤ most → f k.closed + o ≤ s.period → Accounts h l left
+    runs_on {f = f} {h = h} {k = k} {l = l} a b c d r e u w = record {
       spent = grind (arith, a.spent, b.each l.closed);
+      offered = grind (arith, a.offered, b.each l.closed);
+      recorded = rw c (r ∙ a.recorded ∙ same_record s.period f h k.closed (λ z. grind (arith, b.each (k.closed - 1))));
       fits = grind (arith, b.each l.closed);
       bound = u;
       before = λ j i. grind (arith, a.before j, b.each j);
@@ -41,6 +59,8 @@ module _ (s : RawSettings) where
         closes : s.period ≤ k.elapsed → Accounts f (next_period s k) due
         closes i = record {
           spent = omega (arith, a.spent, a.fits, a.later (k.closed + 1));
+          offered = sym (a.later (k.closed + 1) (omega arith));
+          recorded = next_record s.period f k.closed k.offered a.offered;
           fits = omega (arith, a.later (k.closed + 1));
           bound = omega (arith, a.spent, a.fits, a.bound);
           before = λ j l. grind (arith, a.before j, a.spent, a.bound);

@@ -1,5 +1,5 @@
 -- Every closed period offered the application its share: bearers use less than the limit and the grant bound together.
-use Rattle.std.proofs.Common.{◌≡◌, ℕ, zero, suc, ◌+◌, ◌-◌, ◌*◌, ◌<◌, ◌≤◌, true, false, cond, ◌||◌, eqb, List, [], ◌∷◌, ◌++◌, length, get_or, Some, None, Ok, Option, Result, refl, ap, arith}
+use Rattle.std.proofs.Common.{◌≡◌, ℕ, zero, suc, ◌+◌, ◌-◌, ◌*◌, ◌<◌, ◌≤◌, true, false, cond, ◌||◌, eqb, List, [], ◌∷◌, ◌++◌, length, get_or, Some, None, Ok, Option, Result, refl, ap, arith, sym}
 use Rattle.std.proofs.lemmas.Bool.{cond_both}
 use Rattle.std.specs.List.{AllByRecursion}
 use Rattle.std.proofs.lemmas.List.Sums.{sum_by_push}
@@ -15,8 +15,8 @@ use Rattle.machine.specs.Settings.{highest_cost, grant_bound}
 use Rattle.machine.specs.Moves.{set_gate}
 use Rattle.machine.specs.Calls.{next_packet}
 use Rattle.machine.specs.Machine.{fresh}
-use Rattle.machine.specs.Trace.{Entry, trace}
-use Rattle.machine.specs.Laws.{Bounded, Always, Share, cycles_of, offered_by, offered_in, closed_in}
+use Rattle.machine.specs.Trace.{Entry, trace, end_of}
+use Rattle.machine.specs.Laws.{Bounded, Always, Share, cycles_of, offered_by, offered_in, closed_in, TrueRecords}
 use Rattle.machine.proofs.Basics.{on_changed, at_mapped}
 use Rattle.machine.proofs.Loads.{TidyCore, TidyState}
 use Rattle.machine.proofs.Tidy.{keeps_tidy}
@@ -83,7 +83,7 @@ module _ (p : Batches) (start : List Bearer) where
     -- no cycles go by
     kept : due g ≤ due x.grant → Funded s h bs x.clock g
     kept less = record {
-      accounts = runs_on s _ i.accounts n refl (omega arith) (omega (arith, i.accounts.bound)) (omega (arith, i.accounts.fits));
+      accounts = runs_on s _ i.accounts n refl (omega arith) refl (omega arith) (omega (arith, i.accounts.bound)) (omega (arith, i.accounts.fits));
       few = omega (arith, i.few);
       cheap = cheap;
     }
@@ -92,7 +92,7 @@ module _ (p : Batches) (start : List Bearer) where
     charged : (c : ℕ) → due g ≤ p.greatest * price → x.clock.used + c + due g + 1 ≤ s.limit + grant_bound p start →
         Funded s h bs (settled s (record x.clock { elapsed = x.clock.elapsed + c; used = x.clock.used + c })) g
     charged c few less = record {
-      accounts = settles s _ _ (runs_on s _ i.accounts n refl (omega arith) less (omega (arith, i.accounts.fits)));
+      accounts = settles s _ _ (runs_on s _ i.accounts n refl (omega arith) refl (omega arith) less (omega (arith, i.accounts.fits)));
       few = few;
       cheap = cheap;
     }
@@ -131,7 +131,7 @@ module _ (p : Batches) (start : List Bearer) where
         (cond_both o _ _ Cheap (λ _. cheap_changed x.bearers g.bearer (after_arm false) (armed_cost (bearer_of x.bearers g.bearer)) i.cheap) (λ _. i.cheap))
         (omega arith)
     move_funded _ _ _ (worked l r) n = record {
-      accounts = settles s _ _ (runs_on s _ i.accounts n refl (omega arith) i.accounts.bound (omega (arith, i.accounts.spent)));
+      accounts = settles s _ _ (runs_on s _ i.accounts n refl (omega arith) refl (omega arith) i.accounts.bound (omega (arith, i.accounts.spent)));
       few = i.few;
       cheap = i.cheap;
     }
@@ -141,6 +141,8 @@ module _ (p : Batches) (start : List Bearer) where
   fresh_funded s f bs e none = record {
     accounts = record {
       spent = omega (arith, none 0);
+      offered = sym (none 0);
+      recorded = refl;
       fits = omega (arith, none 0);
       bound = omega arith;
       before = λ j l. absurd (omega arith);
@@ -174,9 +176,14 @@ module _ (p : Batches) (start : List Bearer) where
   keeps_fair bounded es _ _ _ _ t i (moved {s = s} {x = x} {y = y} {c = c} {a = a} m) =
       gate_funded s _ x y (move_funded bounded s _ _ x t i c a y m (booked es s x c (Ok a) (running s (set_gate s x y))))
 
-pub share : Always Share
-share p bounded bs cs =
-    let i = at_end p (λ es t. TidyState t × Fair p bs es t)
+-- at the end of every list of calls
+always_fair : (p : Batches) → Bounded p → (bs : List Bearer) (cs : List Call) → Fair p bs (trace p (idle bs) cs) (end_of (idle bs) (trace p (idle bs) cs))
+always_fair p bounded bs cs = (at_end p (λ es t. TidyState t × Fair p bs es t)
     (λ es t u c r i h. (keeps_tidy p t u c r i.0 h, keeps_fair p bs bounded es t u c r i.0 i.1 h))
-    (idle bs) (tt, (refl, λ _. refl)) cs in
-    if_running (Fair p bs (trace p (idle bs) cs)) (λ s x j. j.accounts.before) _ i.1
+    (idle bs) (tt, (refl, λ _. refl)) cs).1
+
+pub share : Always Share
+share p bounded bs cs = if_running (Fair p bs (trace p (idle bs) cs)) (λ s x i. i.accounts.before) _ (always_fair p bounded bs cs)
+
+pub true_records : Always TrueRecords
+true_records p bounded bs cs = if_running (Fair p bs (trace p (idle bs) cs)) (λ s x i. i.accounts.recorded) _ (always_fair p bounded bs cs)

@@ -1,10 +1,11 @@
 -- Laws of every list of calls, made on a receiver just put up. Those are proved that the contract of `laws` names. Each law speaks of a policy, of the bearers that the board showed then, and of a trace.
-use Rattle.std.specs.Prelude.{◌≡◌, ℕ, ◌+◌, ◌<◌, ◌≤◌, Bool, true, false, cond, ◌≢◌, List, [], ◌∷◌, ◌++◌, map, length, Some, None, Ok, Err, Option, Result, ◌==◌, nat_lt}
+use Rattle.std.specs.Prelude.{◌≡◌, ℕ, ◌+◌, ◌-◌, ◌<◌, ◌≤◌, Bool, true, false, cond, ◌≢◌, List, [], ◌∷◌, ◌++◌, map, length, Some, None, Ok, Err, Option, Result, ◌==◌, nat_lt}
 use Rattle.std.specs.List.{slice_get, flat_map, sum_by}
 use Rattle.board.specs.declared.packets.Packet.{Packet}
 use Rattle.board.specs.Bearers.{Bearer, bearer_of}
 use Rattle.machine.specs.declared.answers.Answer.{Answer}
 use Rattle.machine.specs.declared.answers.Answer.TheVariants.{Configured, Arrived, Worked, Fetched, Finished, Discarded, Told}
+use Rattle.machine.specs.declared.answers.Period.{Period}
 use Rattle.machine.specs.declared.answers.Progress.{Progress}
 use Rattle.machine.specs.declared.answers.Progress.TheVariants.{Begun, Taken}
 use Rattle.machine.specs.declared.answers.Report.{Report}
@@ -74,6 +75,18 @@ offered_in k = sum_by (λ (e : Entry). cond (closed_in e.before == k) (offered_b
 abbrev pub Share : Law
 Share p bs es =
     OnceRunning (end_of (idle bs) es) (λ s x. (k : ℕ) → k < x.clock.closed → s.period + 1 ≤ offered_in k es + (s.limit + grant_bound p bs))
+
+-- the record of a period that offered so many cycles, and that of the last of so many closed periods
+abbrev pub period_record : ℕ → ℕ → Period
+period_record period offered = record { offered = offered; network = period - offered }
+
+abbrev pub last_record : ℕ → (ℕ → ℕ) → ℕ → Option Period
+last_record period offered closed = cond (closed == 0) None (Some (period_record period (offered (closed - 1))))
+
+-- TRUE RECORDS. The record of the last closed period, which tell reads, has what that period offered the application, and the rest of the period.
+abbrev pub TrueRecords : Law
+TrueRecords p bs es =
+    OnceRunning (end_of (idle bs) es) (λ s x. x.clock.last ≡ last_record s.period (λ k. offered_in k es) x.clock.closed)
 
 -- packets wait in a bearer
 abbrev pub Waiting : ℕ → State → Type 0

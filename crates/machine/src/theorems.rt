@@ -1,5 +1,5 @@
 ghost use Rattle.machine.specs.Examples.{replayed, standard_board, four, examples};
-ghost use Rattle.machine.specs.Laws.{Always, EqualTurns, LedgerAgrees, NeverDeaf, OnePlace, Quiet, RefusalsLeave, Share, TrueAnswers};
+ghost use Rattle.machine.specs.Laws.{Always, EqualTurns, LedgerAgrees, NeverDeaf, OnePlace, Quiet, RefusalsLeave, Share, TrueAnswers, TrueRecords};
 ghost use Rattle.machine.specs.Settings.{grant_bound};
 ghost use Rattle.machine.specs.Sharp.{Sometimes, ShareMet};
 ghost use Rattle.machine.specs.State.{idle};
@@ -10,6 +10,7 @@ ghost use Rattle.std.specs.Prelude.{◌≡◌, map};
 pub fn laws()
     ensures refusals_leave { Always RefusalsLeave }
     ensures share { Always Share }
+    ensures true_records { Always TrueRecords }
     ensures one_place { Always OnePlace }
     ensures ledger_agrees { Always LedgerAgrees }
     ensures true_answers { Always TrueAnswers }
