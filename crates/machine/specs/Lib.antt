@@ -1,4 +1,5 @@
 pub mod Calls
+pub mod Edges
 pub mod Examples
 pub mod Laws
 pub mod Ledger

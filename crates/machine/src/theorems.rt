@@ -1,3 +1,4 @@
+ghost use Rattle.machine.specs.Edges.{edges};
 ghost use Rattle.machine.specs.Examples.{replayed, standard_board, four, examples};
 ghost use Rattle.machine.specs.Laws.{Always, EqualTurns, LedgerAgrees, NeverDeaf, OnePlace, Quiet, RefusalsLeave, Share, TrueAnswers, TrueRecords};
 ghost use Rattle.machine.specs.Settings.{grant_bound};
@@ -21,9 +22,10 @@ pub fn laws()
 
 /// Carries in its contract what runs of the state machine come to: the worked examples, and one run that meets the bound of
 /// the application's share. It does nothing.
-#[tactic(auto, using(crate::proofs::Worked::as_written, crate::proofs::Sharp::share_met))]
+#[tactic(auto, using(crate::proofs::Worked::as_written, crate::proofs::Worked::at_the_edges, crate::proofs::Sharp::share_met))]
 pub fn examples()
     ensures as_written { map (replayed four (idle standard_board)) examples ≡ examples }
+    ensures at_the_edges { map (λ e. (e.0, replayed four e.0 e.1)) edges ≡ edges }
     ensures grant_bound { grant_bound four standard_board ≡ 25040 }
     ensures share_met { Sometimes ShareMet }
 {}
