@@ -1,5 +1,6 @@
 -- Over every list of calls the receiver agrees with the ledger, and answers true to it.
 use Rattle.std.proofs.Common.{◌≡◌, ℕ, List, [], ◌∷◌, ◌++◌, map, length, replicate, Result, refl, sym, ap, subst, false, ◌+◌}
+use Rattle.std.proofs.lemmas.Bool.{not-true}
 use Rattle.board.specs.Bearers.{Bearer, after_arm, after_disarm, any_waiting}
 use Rattle.machine.specs.declared.answers.Answer.{Answer}
 use Rattle.machine.specs.declared.calls.Call.{Call}
@@ -15,7 +16,6 @@ use Rattle.machine.proofs.Runs.{made, throughout, each_call, if_running}
 use Rattle.machine.proofs.Tally.{numbers_in, depth_of, TallyCore, move_tally, move_true, gate_tally}
 use Rattle.machine.proofs.Pushed.{ledger_push}
 use Rattle.machine.proofs.Basics.{none_left}
-use Rattle.std.proofs.lemmas.Bool.{not-true}
 
 -- before it is configured, the ledger is empty
 abbrev TallyState : List ℕ → State → Ledger → Type 0

@@ -3,23 +3,23 @@ use Rattle.std.proofs.Common.{◌≡◌, ℕ, Bool, true, false, cond, ◌&&◌,
 use Rattle.std.proofs.Math.Seq.{map-set_same}
 use Rattle.std.proofs.Math.ListN.{get_or-map}
 use Rattle.std.proofs.lemmas.List.{map-set, map_push, length_push, length-map}
+use Rattle.std.proofs.lemmas.Bool.{cond_both}
+use Rattle.std.specs.List.{slice_get}
 use Rattle.board.specs.declared.packets.Packet.{Packet}
 use Rattle.board.specs.Bearers.{Bearer, absent, bearer_of, changed, has_room, any_waiting, after_arm, after_take, after_disarm}
 use Rattle.machine.specs.declared.answers.Counts.{Counts}
 use Rattle.machine.specs.declared.calls.RawSettings.{RawSettings}
+use Rattle.machine.specs.declared.answers.Answer.{Answer}
+use Rattle.machine.specs.declared.calls.Call.{Call}
+use Rattle.machine.specs.declared.calls.Call.TheVariants.{Arrive}
+use Rattle.machine.specs.declared.answers.Answer.TheVariants.{Arrived}
 use Rattle.machine.specs.State.{Grant, Core, Batches, waits, holds}
 use Rattle.machine.specs.Moves.{one_numbered, one_bearer_full, one_queue_full, one_delivered, one_discarded, set_gate}
 use Rattle.machine.specs.Ledger.{Ledger, column, column_room, queue_room, arrives, taken_from, handed_out, spent, accepted, counts_of}
 use Rattle.machine.specs.Laws.{numbers, TrueAnswer}
-use Rattle.std.proofs.lemmas.Bool.{cond_both}
-use Rattle.machine.specs.declared.answers.Answer.{Answer}
-use Rattle.machine.specs.declared.calls.Call.{Call}
 use Rattle.machine.specs.Calls.{without, next_packet}
 use Rattle.machine.proofs.Moved.{behind, Move, lost, stored, signalled, begun, emptied, taken, rescheduled, completed, worked, fetched, finished, discarded, told}
 use Rattle.machine.proofs.Unmoved.{unmoved_bearers, gate_unmoved}
-use Rattle.std.specs.List.{slice_get}
-use Rattle.machine.specs.declared.calls.Call.TheVariants.{Arrive}
-use Rattle.machine.specs.declared.answers.Answer.TheVariants.{Arrived}
 
 -- what a column has of a bearer, and a bearer's depth
 abbrev pub numbers_in : Bearer → List ℕ
