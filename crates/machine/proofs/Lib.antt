@@ -1,8 +1,10 @@
 pub mod Agreement
 pub mod Basics
 pub mod Gate
+pub mod Lines
 pub mod Loads
 pub mod Moved
+pub mod Order
 pub mod Periods
 pub mod Places
 pub mod Proved

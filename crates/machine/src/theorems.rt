@@ -1,6 +1,6 @@
 ghost use Rattle.machine.specs.Edges.{edges};
 ghost use Rattle.machine.specs.Examples.{replayed, standard_board, four, examples};
-ghost use Rattle.machine.specs.Laws.{Always, EqualTurns, LedgerAgrees, NeverDeaf, OnePlace, Quiet, RefusalsLeave, Share, TrueAnswers, TrueRecords};
+ghost use Rattle.machine.specs.Laws.{Always, ArrivalOrder, EqualTurns, LedgerAgrees, NeverDeaf, OnePlace, Quiet, RefusalsLeave, Share, TrueAnswers, TrueRecords};
 ghost use Rattle.machine.specs.Settings.{grant_bound};
 ghost use Rattle.machine.specs.Sharp.{Sometimes, ShareMet};
 ghost use Rattle.machine.specs.State.{idle};
@@ -15,6 +15,7 @@ pub fn laws()
     ensures one_place { Always OnePlace }
     ensures ledger_agrees { Always LedgerAgrees }
     ensures true_answers { Always TrueAnswers }
+    ensures arrival_order { Always ArrivalOrder }
     ensures never_deaf { Always NeverDeaf }
     ensures equal_turns { Always EqualTurns }
     ensures quiet { Always Quiet }
