@@ -1,26 +1,30 @@
 -- Small facts about tests, lists and changed bearers.
-use Rattle.std.proofs.Common.{◌≡◌, ℕ, zero, suc, ◌<◌, ◌≤◌, Bool, true, false, ltb, List, [], ◌∷◌, map, length, set, sym, refl, ap, ◌∙◌, subst, ⊎_elim, arith}
-use Rattle.std.proofs.lemmas.List.{set-get_or, get_or-set_other, get_or_past, nil_from_length}
+use Rattle.std.proofs.Common.{◌≡◌, ℕ, zero, suc, ◌<◌, ◌≤◌, Bool, true, false, ltb, List, [], ◌∷◌, map, length, set, sym, refl, ap, ◌∙◌, subst, ⊎_elim, arith, get_or}
+use Rattle.std.proofs.lemmas.List.{set-get_or, get_or-set_other, get_or_past, nil_from_length, get_or-set_same, set_past}
 use Rattle.std.proofs.lemmas.Bool.{cases_lt, cases_eq, ltb-false}
 use Rattle.board.specs.Bearers.{Bearer, absent, bearer_of, changed}
-use Rattle.board.proofs.Changes.{bearer_changed, changed_past}
 
 -- what holds of each value of a test
 pub tested : (P : Bool → Type 0) (b : Bool) → (b ≡ true → P true) → (b ≡ false → P false) → P b
 tested P true t f = t refl
 tested P false t f = f refl
 
--- a bearer of a board on which one was changed: that one, if it is shown, or as it was
+-- an element of a list in which one was set: that one, if it is in the list, or as it was
+pub at_set : {A : Type 0} (P : A → Type 0) (xs : List A) (i j : ℕ) (x d : A) →
+    (j ≡ i → i < length xs → P x) → ((j ≡ i → length xs ≤ i) → P (get_or xs j d)) → P (get_or (set xs i x) j d)
+at_set P xs i j x d there else =
+    ⊎_elim
+    (λ (e : j ≡ i). ⊎_elim
+    (λ (l : i < length xs). rw e (subst P (sym (get_or-set_same xs i x d l)) (there e l)))
+    (λ (l : length xs ≤ i). subst (λ ys. P (get_or ys j d)) (sym (set_past xs i x l)) (else (λ _. l)))
+    (cases_lt i (length xs)))
+    (λ (n : j ≡ i → ⊥). subst P (sym (get_or-set_other xs i j x d n)) (else (λ e. absurd (n e))))
+    (cases_eq j i)
+
+-- so a bearer of a board on which one was changed
 pub at_changed : (P : Bearer → Type 0) (bs : List Bearer) (b c : ℕ) (f : Bearer → Bearer) →
     (c ≡ b → b < length bs → P (f (bearer_of bs b))) → ((c ≡ b → length bs ≤ b) → P (bearer_of bs c)) → P (bearer_of (changed bs b f) c)
-at_changed P bs b c f there else =
-    ⊎_elim
-    (λ (e : c ≡ b). ⊎_elim
-    (λ (l : b < length bs). subst P (ap (bearer_of (changed bs b f)) (sym e)) (subst P (sym (bearer_changed bs b f l)) (there e l)))
-    (λ (l : length bs ≤ b). subst (λ (k : List Bearer). P (bearer_of k c)) (sym (changed_past bs b f l)) (else (λ _. l)))
-    (cases_lt b (length bs)))
-    (λ (n : c ≡ b → ⊥). subst P (sym (get_or-set_other bs b c (f (bearer_of bs b)) absent n)) (else (λ e. absurd (n e))))
-    (cases_eq c b)
+at_changed P bs b c f there else = at_set P bs b c (f (bearer_of bs b)) absent there else
 
 -- a bearer that is not shown is not armed
 pub past_disarmed : (bs : List Bearer) (b : ℕ) → length bs ≤ b → (bearer_of bs b).armed ≡ false

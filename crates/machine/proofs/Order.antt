@@ -1,8 +1,8 @@
 -- Arrival order: where the answers are true to the ledger, the numbers of one bearer go through its columns in the order of their arrival.
 use Rattle.std.proofs.Common.{◌≡◌, ℕ, ◌+◌, ◌<◌, Bool, cond, eqb, List, [], ◌∷◌, ◌++◌, length, get_or, replicate, set, drop, Some, Ok, Err, Result, sym, refl, ap, ◌∙◌, subst, ⊎_elim, append_assoc, append-nil, arith}
 use Rattle.std.specs.List.{slice_get}
-use Rattle.std.proofs.lemmas.Bool.{cond_both, eq-eqb, ne_eqb, cases_eq, cases_lt, eqb-true}
-use Rattle.std.proofs.lemmas.List.{get_or-set_same, get_or-set_other, get_or_past, get_or-replicate, length-replicate}
+use Rattle.std.proofs.lemmas.Bool.{cond_both, eq-eqb, ne_eqb, cases_lt, eqb-true}
+use Rattle.std.proofs.lemmas.List.{get_or_past, get_or-replicate, length-replicate}
 use Rattle.std.proofs.lemmas.List.Elements.{filter-append}
 use Rattle.std.proofs.lemmas.Grind.{flat_map-append}
 use Rattle.board.specs.Bearers.{Bearer}
@@ -19,13 +19,13 @@ use Rattle.machine.specs.Laws.{Always, TrueStep, Truly, TrueAnswers, fetched_by,
 use Rattle.machine.proofs.Lines.{Line, mine, line_to, line_push, line_middle, line_at, line_places, mine_rise}
 use Rattle.machine.proofs.Pushed.{told_keeps}
 use Rattle.machine.proofs.Agreement.{true_answers}
+use Rattle.machine.proofs.Basics.{at_set}
 
 -- what holds of each column holds after one of them was set
-at_set : (P : ℕ → List ℕ → Type 0) (cs : List (List ℕ)) (b : ℕ) (c : List ℕ) → b < length cs → P b c →
+each_column : (P : ℕ → List ℕ → Type 0) (cs : List (List ℕ)) (b : ℕ) (c : List ℕ) → b < length cs → P b c →
     ((d : ℕ) → (d ≡ b → ⊥) → P d (get_or cs d [])) → (d : ℕ) → P d (get_or (set cs b c) d [])
-at_set P cs b c h here there d =
-    ⊎_elim (λ (e : d ≡ b). subst (λ (i : ℕ). P i (get_or (set cs b c) i [])) (sym e) (rw get_or-set_same here))
-    (λ (n : d ≡ b → ⊥). rw get_or-set_other (there d n)) (cases_eq d b)
+each_column P cs b c h here there d =
+    at_set (P d) cs b d c [] (λ e _. subst (λ i. P i c) (sym e) here) (λ past. there d (λ e. omega (arith, past e, h)))
 
 front : (n : ℕ) (c : List ℕ) → slice_get c 0 ≡ Some n → c ≡ n ∷ drop 1 c
 front n [] e = cc
@@ -56,7 +56,7 @@ module _ (origin : ℕ → ℕ) where
         Order f (λ d. a d ++ cond (eqb b d) (k ∷ []) []) q (cond room (set cs b (get_or cs b [] ++ k ∷ [])) cs) (k + 1)
     order_arrives b room h e = record {
       row = cond_both room _ _ (λ (ds : List (List ℕ)). (d : ℕ) → Row f q (k + 1) d (get_or ds d []))
-          (λ _. at_set (Row f q (k + 1)) cs b _ h (rw (← append_assoc) (line_push origin b 0 k _ e (o.row b))) (λ d _. up d _ (o.row d)))
+          (λ _. each_column (Row f q (k + 1)) cs b _ h (rw (← append_assoc) (line_push origin b 0 k _ e (o.row b))) (λ d _. up d _ (o.row d)))
           (λ _ d. up d _ (o.row d));
       came = λ d. cond_both (eqb b d) (k ∷ []) [] (λ new. Line origin d 0 (a d ++ new) (k + 1))
           (λ i. line_push origin d 0 k (a d) (e ∙ eqb-true b d i) (o.came d)) (λ _. rw append-nil (up d _ (o.came d)));
@@ -69,10 +69,10 @@ module _ (origin : ℕ → ℕ) where
     order_taken : (b n : ℕ) (c : List ℕ) (room : Bool) → get_or cs b [] ≡ n ∷ c → Order f a (cond room (q ++ n ∷ []) q) (set cs b c) k
     order_taken b n c room e = record {
       row = cond_both room _ _ (λ (p : List ℕ). (d : ℕ) → Row f p k d (get_or (set cs b c) d []))
-          (λ _. at_set (Row f (q ++ n ∷ []) k) cs b c shown
+          (λ _. each_column (Row f (q ++ n ∷ []) k) cs b c shown
           (rw (joined b, eq-eqb (origin n) b middle.0, append_assoc) here)
           (λ d i. rw (joined d, ne_eqb (origin n) d (λ j. i (sym j ∙ middle.0)), append-nil) (o.row d)))
-          (λ _. at_set (Row f q k) cs b c shown middle.1 (λ d _. o.row d));
+          (λ _. each_column (Row f q k) cs b c shown middle.1 (λ d _. o.row d));
       came = o.came;
     }
       where

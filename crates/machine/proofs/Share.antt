@@ -22,7 +22,7 @@ use Rattle.machine.proofs.Loads.{TidyCore, TidyState}
 use Rattle.machine.proofs.Tidy.{keeps_tidy}
 use Rattle.machine.proofs.Moved.{behind, Move, stored, signalled, begun, emptied, taken, rescheduled, completed, worked, Happens, refused, asked_idle, configured, moved}
 use Rattle.machine.proofs.Runs.{made, at_end, if_running}
-use Rattle.machine.proofs.Unmoved.{Unmoved, gate_unmoved, unmoved_bearer}
+use Rattle.machine.proofs.Unmoved.{Unmoved, gate_unmoved, unmoved_bearer, armed_shows}
 use Rattle.machine.proofs.Periods.{Booked, settled, Accounts, runs_on, settles}
 
 -- no length costs more than the last class, and no bearer more than the highest cost
@@ -109,9 +109,6 @@ module _ (p : Batches) (start : List Bearer) where
     one_fewer : (g : Grant) (m : ℕ) → x.grant ≡ Some g → (g.left ≡ 0 → ⊥) → m ≤ g.left - 1 → m * price + price ≤ due x.grant
     one_fewer g m e some less = omega (arith, ap due e, mul-le-mul_right {m = m + 1} {n = g.left} price (omega (arith, some, less)))
 
-    armed_cost : (v : Bearer) → (after_arm false v).cost ≡ v.cost
-    armed_cost v = grind arith
-
     move_funded : (c : Call) (a : Answer) (y : Core) → Move s p x c a y → Booked f x.clock (cycles_of c) h → FundedCore s h y
     move_funded _ _ _ (stored {b = b} {n = size} {t = tag} l r e) n =
         kept x i n _ x.grant (cheap_changed x.bearers b (behind (next_packet size tag x)) refl i.cheap) (omega arith)
@@ -128,7 +125,7 @@ module _ (p : Batches) (start : List Bearer) where
     move_funded _ _ _ (rescheduled e z) n = kept x i n x.bearers None i.cheap (omega arith)
     move_funded _ _ _ (completed {g = g} {o = o} e w z r) n =
         kept x i n _ None
-        (cond_both o _ _ Cheap (λ _. cheap_changed x.bearers g.bearer (after_arm false) (armed_cost (bearer_of x.bearers g.bearer)) i.cheap) (λ _. i.cheap))
+        (cond_both o _ _ Cheap (λ _. cheap_changed x.bearers g.bearer (after_arm false) (armed_shows (λ v. v.cost) (λ _. refl) (bearer_of x.bearers g.bearer)) i.cheap) (λ _. i.cheap))
         (omega arith)
     move_funded _ _ _ (worked l r) n = record {
       accounts = settles s _ _ (runs_on s _ i.accounts n refl (omega arith) refl (omega arith) i.accounts.bound (omega (arith, i.accounts.spent)));

@@ -1,12 +1,12 @@
 -- The ledger and the receiver hold the same: kept by every move of the receiver, and by the gate.
-use Rattle.std.proofs.Common.{◌≡◌, ℕ, Bool, true, false, cond, ◌&&◌, ltb, List, [], ◌∷◌, ◌++◌, map, length, set, get_or, drop, Some, None, Option, refl, sym, ap, ◌∙◌, subst, ◌<◌, arith}
+use Rattle.std.proofs.Common.{◌≡◌, ℕ, Bool, true, false, cond, ltb, List, [], ◌∷◌, ◌++◌, map, length, set, get_or, drop, Some, None, Option, refl, sym, ap, ◌∙◌, subst, ◌<◌, arith}
 use Rattle.std.proofs.Math.Seq.{map-set_same}
 use Rattle.std.proofs.Math.ListN.{get_or-map}
 use Rattle.std.proofs.lemmas.List.{map-set, map_push, length_push, length-map}
 use Rattle.std.proofs.lemmas.Bool.{cond_both}
 use Rattle.std.specs.List.{slice_get}
 use Rattle.board.specs.declared.packets.Packet.{Packet}
-use Rattle.board.specs.Bearers.{Bearer, absent, bearer_of, changed, has_room, any_waiting, after_arm, after_take, after_disarm}
+use Rattle.board.specs.Bearers.{Bearer, absent, bearer_of, changed, has_room, after_arm, after_take, after_disarm}
 use Rattle.machine.specs.declared.answers.Counts.{Counts}
 use Rattle.machine.specs.declared.calls.RawSettings.{RawSettings}
 use Rattle.machine.specs.declared.answers.Answer.{Answer}
@@ -19,7 +19,7 @@ use Rattle.machine.specs.Ledger.{Ledger, column, column_room, queue_room, arrive
 use Rattle.machine.specs.Laws.{numbers, TrueAnswer}
 use Rattle.machine.specs.Calls.{without, next_packet}
 use Rattle.machine.proofs.Moved.{behind, Move, lost, stored, signalled, begun, emptied, taken, rescheduled, completed, worked, fetched, finished, discarded, told}
-use Rattle.machine.proofs.Unmoved.{unmoved_bearers, gate_unmoved}
+use Rattle.machine.proofs.Unmoved.{unmoved_bearers, gate_unmoved, armed_shows}
 
 -- what a column has of a bearer, and a bearer's depth
 abbrev pub numbers_in : Bearer → List ℕ
@@ -62,9 +62,18 @@ module _ {depths : List ℕ} {size : ℕ} {bs : List Bearer} {g : Option Grant} 
       let n : length l.columns.queue ≡ length q = ap length (sym t.queue) ∙ length-map q (λ (p : Packet). p.number) in
       cc (n, t.size_is)
 
-  -- a board that shows the same packets and depths; another grant on the bearer last begun
-  reshown : (cs : List Bearer) → map numbers_in cs ≡ map numbers_in bs → map depth_of cs ≡ map depth_of bs → Tally depths size cs g q o n l
-  reshown cs e d = record { waiting = e ∙ t.waiting; depths_are = d ∙ t.depths_are; serving = t.serving; size_is = t.size_is; queue = t.queue; out = t.out; counts = t.counts }
+  -- a bearer changed that shows the same packets and depth; another grant on the bearer last begun
+  reshown : (b : ℕ) (f : Bearer → Bearer) → numbers_in (f (bearer_of bs b)) ≡ numbers (waits bs b) → (f (bearer_of bs b)).depth ≡ (bearer_of bs b).depth →
+      Tally depths size (changed bs b f) g q o n l
+  reshown b f e d = record {
+    waiting = map-set_same numbers_in bs b (f (bearer_of bs b)) absent e ∙ t.waiting;
+    depths_are = map-set_same depth_of bs b (f (bearer_of bs b)) absent d ∙ t.depths_are;
+    serving = t.serving;
+    size_is = t.size_is;
+    queue = t.queue;
+    out = t.out;
+    counts = t.counts;
+  }
 
   regranted : (h : Option Grant) → Serving h l.serving → Tally depths size bs h q o n l
   regranted h e = record { waiting = t.waiting; depths_are = t.depths_are; serving = e; size_is = t.size_is; queue = t.queue; out = t.out; counts = t.counts }
@@ -189,8 +198,7 @@ module _ (s : RawSettings) (p : Batches) (x : Core) (depths : List ℕ) (l : Led
       arrived_tally b true y r (one_more t b (λ v. after_disarm (behind (next_packet n tag x) v)) (next_packet n tag x) refl refl refl)
   move_tally _ _ _ (begun e i u h) = record { waiting = t.waiting; depths_are = t.depths_are; serving = refl; size_is = t.size_is; queue = t.queue; out = t.out; counts = t.counts }
   move_tally _ _ _ (emptied {g = g} e w n) =
-      regranted (reshown t (changed x.bearers g.bearer after_take) (map-set_same numbers_in x.bearers g.bearer _ absent (cc w)) (map-set_same depth_of x.bearers g.bearer _ absent refl))
-      (Some (record { bearer = g.bearer; left = 0 })) (serves_last g e)
+      regranted (reshown t g.bearer after_take (cc w) refl) (Some (record { bearer = g.bearer; left = 0 })) (serves_last g e)
   move_tally _ _ y (taken {g = g} {q = q} {rest = rest} {m = m} {room = room} e w n less r) =
       let last = serves_last g e in
       subst (λ b. TallyCore depths s y (record l { columns = taken_from (queue_room l) b l.columns })) last
@@ -198,12 +206,10 @@ module _ (s : RawSettings) (p : Batches) (x : Core) (depths : List ℕ) (l : Led
       (one_taken t g.bearer q rest (Some (record { bearer = g.bearer; left = m })) w last room))
   move_tally _ _ _ (rescheduled e n) = regranted t None tt
   move_tally _ _ _ (completed {g = g} {o = o} e w n i) =
+      let b : ℕ = g.bearer in
       regranted (cond_both o _ _ (λ (bs : List Bearer). Tally depths s.size bs x.grant x.queue x.out x.counts l)
-      (λ _. reshown t (changed x.bearers g.bearer (after_arm false)) (map-set_same numbers_in x.bearers g.bearer _ absent (armed_shows numbers_in _ refl)) (map-set_same depth_of x.bearers g.bearer _ absent (armed_shows depth_of _ refl)))
+      (λ _. reshown t b (after_arm false) (armed_shows numbers_in (λ _. refl) (bearer_of x.bearers b)) (armed_shows depth_of (λ _. refl) (bearer_of x.bearers b)))
       (λ _. t)) None tt
-    where
-      armed_shows : {A : Type 0} (f : Bearer → A) (v : Bearer) → f (record v { armed = true; signal = any_waiting v.waiting && false }) ≡ f v → f (after_arm false v) ≡ f v
-      armed_shows f v same = cond_both v.armed _ _ (λ (w : Bearer). f w ≡ f v) (λ _. refl) (λ _. same)
   move_tally _ _ _ (worked i h) = t
   move_tally _ _ _ (fetched {q = q} {rest = rest} e) = one_fetched t q rest e
   move_tally _ _ _ (finished {n = n} h) = one_spent t true n

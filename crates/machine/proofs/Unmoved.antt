@@ -37,8 +37,12 @@ unmoved_bearers f same x y u = sym (shown y.bearers) ∙ ap (map f) u.bearers �
 rearmed : (f : Bearer → Bearer) → ((v : Bearer) → after_disarm (f v) ≡ after_disarm v) → (bs : List Bearer) (b : ℕ) → map after_disarm (changed bs b f) ≡ map after_disarm bs
 rearmed f same bs b = map-set_same after_disarm bs b (f (bearer_of bs b)) absent (same (bearer_of bs b))
 
+-- arming leaves all else of a bearer as it was
 armed_same : (v : Bearer) → after_disarm (after_arm false v) ≡ after_disarm v
 armed_same v = cond_both v.armed _ _ (λ (w : Bearer). after_disarm w ≡ after_disarm v) (λ _. refl) (λ _. refl)
+
+pub armed_shows : {A : Type 0} (f : Bearer → A) → ((v : Bearer) → f (after_disarm v) ≡ f v) → (v : Bearer) → f (after_arm false v) ≡ f v
+armed_shows f same v = sym (same (after_arm false v)) ∙ ap f (armed_same v) ∙ same v
 
 module _ (x : Core) where
   unmoved_open : (b : ℕ) (y : Core) → Unmoved x y → Unmoved x (open_bearer b y)
