@@ -23,7 +23,8 @@ TallyState depths (idle bs) l = (l ≡ nothing (length bs)) × (depths_of bs ≡
 TallyState depths (running s x) l = TallyCore depths s x l
 
 -- a receiver just configured
-fresh_waiting : (i : ℕ) (bs : List Bearer) → Passed (waiting_checks i bs) → map numbers_in (map (λ v. after_arm false (after_disarm v)) bs) ≡ replicate (length bs) []
+fresh_waiting : (i : ℕ) (bs : List Bearer) → Passed (waiting_checks i bs) →
+    map numbers_in (map (λ v. after_arm false (after_disarm v)) bs) ≡ replicate (length bs) []
 fresh_waiting i [] h = refl
 fresh_waiting i (v ∷ bs) h = cc (none_left v.waiting (not-true (any_waiting v.waiting) h.0), fresh_waiting (i + 1) bs h.1)
 
@@ -31,17 +32,28 @@ fresh_depths : (bs : List Bearer) → map depth_of (map (λ v. after_arm false (
 fresh_depths [] = refl
 fresh_depths (v ∷ bs) = ap (λ ds. v.depth ∷ ds) (fresh_depths bs)
 
-fresh_tally : (s : RawSettings) (bs : List Bearer) → Passed (waiting_checks 0 bs) → TallyCore (depths_of bs) s (fresh bs) (record (nothing (length bs)) { size = s.size })
-fresh_tally s bs h = record { waiting = fresh_waiting 0 bs h; depths_are = fresh_depths bs; serving = tt; size_is = refl; queue = refl; out = refl; counts = refl }
+fresh_tally : (s : RawSettings) (bs : List Bearer) → Passed (waiting_checks 0 bs) →
+    TallyCore (depths_of bs) s (fresh bs) (record (nothing (length bs)) { size = s.size })
+fresh_tally s bs h = record {
+  waiting = fresh_waiting 0 bs h;
+  depths_are = fresh_depths bs;
+  serving = tt;
+  size_is = refl;
+  queue = refl;
+  out = refl;
+  counts = refl;
+}
 
 module _ (p : Batches) (depths : List ℕ) where
-  keeps_tally : (t u : State) (c : Call) (r : Result Answer Refusal) (l : Ledger) → TallyState depths t l → Happens p t c r u → TallyState depths u (told depths c r l)
+  keeps_tally : (t u : State) (c : Call) (r : Result Answer Refusal) (l : Ledger) → TallyState depths t l → Happens p t c r u →
+      TallyState depths u (told depths c r l)
   keeps_tally _ _ _ _ l i refused = i
   keeps_tally _ _ _ _ l i asked_idle = i
   keeps_tally _ _ _ _ l i (configured {bs = bs} {s = s} ranges empty share) =
       subst (λ ds. TallyCore ds s (fresh bs) (record l { size = s.size })) i.1
       (subst (λ (k : Ledger). TallyCore (depths_of bs) s (fresh bs) (record k { size = s.size })) (sym i.0) (fresh_tally s bs empty))
-  keeps_tally _ _ _ _ l i (moved {s = s} {x = x} {y = y} {c = c} {a = a} m) = gate_tally depths s x y (accepted depths c a l) (move_tally s p x depths l i c a y m)
+  keeps_tally _ _ _ _ l i (moved {s = s} {x = x} {y = y} {c = c} {a = a} m) =
+      gate_tally depths s x y (accepted depths c a l) (move_tally s p x depths l i c a y m)
 
   answers_true : (t u : State) (c : Call) (r : Result Answer Refusal) (l : Ledger) → TallyState depths t l → Happens p t c r u → Truly depths c r l
   answers_true _ _ _ _ l i refused = tt
@@ -58,11 +70,14 @@ module _ (p : Batches) (bs : List Bearer) where
   unfolding ledger
   starts_agreeing = (refl, refl)
 
-  keeps_agreeing : (es : List Entry) (t u : State) (c : Call) (r : Result Answer Refusal) → Agreeing es t → Happens p t c r u → Agreeing (es ++ made t c r u ∷ []) u
-  keeps_agreeing es t u c r i h = subst (TallyState (depths_of bs) u) (sym (ledger_push bs es (made t c r u))) (keeps_tally p (depths_of bs) t u c r (ledger bs es) i h)
+  keeps_agreeing : (es : List Entry) (t u : State) (c : Call) (r : Result Answer Refusal) → Agreeing es t → Happens p t c r u →
+      Agreeing (es ++ made t c r u ∷ []) u
+  keeps_agreeing es t u c r i h =
+      subst (TallyState (depths_of bs) u) (sym (ledger_push bs es (made t c r u))) (keeps_tally p (depths_of bs) t u c r (ledger bs es) i h)
 
 pub ledger_agrees : Always LedgerAgrees
-ledger_agrees p _ bs cs before after e = if_running (Agreeing p bs before) (λ s x t. record { waiting = t.waiting; queue = t.queue; out = t.out; counts = t.counts }) _
+ledger_agrees p _ bs cs before after e =
+    if_running (Agreeing p bs before) (λ s x t. record { waiting = t.waiting; queue = t.queue; out = t.out; counts = t.counts }) _
     (throughout p (Agreeing p bs) (keeps_agreeing p bs) (idle bs) (starts_agreeing p bs) cs before after e)
 
 pub true_answers : Always TrueAnswers

@@ -31,7 +31,8 @@ pub past_disarmed : (bs : List Bearer) (b : ℕ) → length bs ≤ b → (bearer
 past_disarmed bs b l = ap (λ (v : Bearer). v.armed) (get_or_past bs b absent l)
 
 -- what a change at one bearer leaves to every bearer
-pub on_changed : (P : Bearer → Type 0) (bs : List Bearer) (b c : ℕ) (f : Bearer → Bearer) → P (f (bearer_of bs b)) → P (bearer_of bs c) → P (bearer_of (changed bs b f) c)
+pub on_changed : (P : Bearer → Type 0) (bs : List Bearer) (b c : ℕ) (f : Bearer → Bearer) → P (f (bearer_of bs b)) → P (bearer_of bs c) →
+    P (bearer_of (changed bs b f) c)
 on_changed P bs b c f there else = at_changed P bs b c f (λ _ _. there) (λ _. else)
 
 -- a change that leaves its bearer as it is

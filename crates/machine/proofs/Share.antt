@@ -125,7 +125,9 @@ module _ (p : Batches) (start : List Bearer) where
     move_funded _ _ _ (rescheduled e z) n = kept x i n x.bearers None i.cheap (omega arith)
     move_funded _ _ _ (completed {g = g} {o = o} e w z r) n =
         kept x i n _ None
-        (cond_both o _ _ Cheap (λ _. cheap_changed x.bearers g.bearer (after_arm false) (armed_shows (λ v. v.cost) (λ _. refl) (bearer_of x.bearers g.bearer)) i.cheap) (λ _. i.cheap))
+        (cond_both o _ _ Cheap
+        (λ _. cheap_changed x.bearers g.bearer (after_arm false) (armed_shows (λ v. v.cost) (λ _. refl) (bearer_of x.bearers g.bearer)) i.cheap)
+        (λ _. i.cheap))
         (omega arith)
     move_funded _ _ _ (worked l r) n = record {
       accounts = settles s _ _ (runs_on s _ i.accounts n refl (omega arith) refl (omega arith) i.accounts.bound (omega (arith, i.accounts.spent)));

@@ -1,5 +1,5 @@
 -- The ledger and the receiver hold the same: kept by every move of the receiver, and by the gate.
-use Rattle.std.proofs.Common.{◌≡◌, ℕ, Bool, true, false, cond, ltb, List, [], ◌∷◌, ◌++◌, map, length, set, get_or, drop, Some, None, Option, refl, sym, ap, ◌∙◌, subst, ◌<◌, arith}
+use Rattle.std.proofs.Common.{◌≡◌, ℕ, Bool, true, false, cond, ltb, List, [], ◌∷◌, ◌++◌, map, length, get_or, Some, None, Option, refl, sym, ap, ◌∙◌, subst, ◌<◌, arith}
 use Rattle.std.proofs.Math.Seq.{map-set_same}
 use Rattle.std.proofs.Math.ListN.{get_or-map}
 use Rattle.std.proofs.lemmas.List.{map-set, map_push, length_push, length-map}
@@ -20,6 +20,7 @@ use Rattle.machine.specs.Laws.{numbers, TrueAnswer}
 use Rattle.machine.specs.Calls.{without, next_packet}
 use Rattle.machine.proofs.Moved.{behind, Move, lost, stored, signalled, begun, emptied, taken, rescheduled, completed, worked, fetched, finished, discarded, told}
 use Rattle.machine.proofs.Unmoved.{unmoved_bearers, gate_unmoved, armed_shows}
+use Rattle.machine.proofs.Basics.{tested}
 
 -- what a column has of a bearer, and a bearer's depth
 abbrev pub numbers_in : Bearer → List ℕ
@@ -46,7 +47,8 @@ pub record Tally (depths : List ℕ) (size : ℕ) (bs : List Bearer) (g : Option
 abbrev pub TallyCore : List ℕ → RawSettings → Core → Ledger → Type 0
 TallyCore depths s x l = Tally depths s.size x.bearers x.grant x.queue x.out x.counts l
 
-module _ {depths : List ℕ} {size : ℕ} {bs : List Bearer} {g : Option Grant} {q : List Packet} {o : List ℕ} {n : Counts} {l : Ledger} (t : Tally depths size bs g q o n l) where
+module _ {depths : List ℕ} {size : ℕ} {bs : List Bearer} {g : Option Grant} {q : List Packet} {o : List ℕ} {n : Counts} {l : Ledger}
+    (t : Tally depths size bs g q o n l) where
   -- what the ledger reads of a bearer, and of the queue, is so
   pub column_is : (b : ℕ) → numbers (waits bs b) ≡ column l b
   column_is b = sym (get_or-map numbers_in bs b absent) ∙ ap (λ cs. get_or cs b []) t.waiting
@@ -104,37 +106,26 @@ module _ {depths : List ℕ} {size : ℕ} {bs : List Bearer} {g : Option Grant} 
 
   -- the oldest packet of a bearer is taken: into the queue, or lost
   one_taken : (b : ℕ) (p : Packet) (rest : List Packet) (h : Option Grant) → waits bs b ≡ p ∷ rest → Serving h l.serving → (room : Bool) →
-      Tally depths size (changed bs b after_take) h (cond room (q ++ p ∷ []) q) o (cond room n (one_queue_full n)) (record l { columns = taken_from room b l.columns })
-  one_taken b p rest h w e room = by room
+      Tally depths size (changed bs b after_take) h (cond room (q ++ p ∷ []) q) o (cond room n (one_queue_full n))
+      (record l { columns = taken_from room b l.columns })
+  one_taken b p rest h w e room = record {
+    waiting = map-set numbers_in bs b (after_take (bearer_of bs b)) ∙ cc (t.waiting, w, front);
+    depths_are = map-set_same depth_of bs b (after_take (bearer_of bs b)) absent refl ∙ t.depths_are;
+    serving = e;
+    size_is = t.size_is;
+    queue = tested (λ r. numbers (cond r (q ++ p ∷ []) q) ≡ (taken_from r b l.columns).queue) room
+        (λ _. map_push (λ (p : Packet). p.number) q p ∙ cc (t.queue, front)) (λ _. t.queue);
+    out = t.out;
+    counts = tested (λ r. cond r n (one_queue_full n) ≡ counts_of (record l { columns = taken_from r b l.columns })) room
+        (λ _. t.counts) (λ _. cc (t.counts, front, length_push l.columns.queue_full p.number));
+  }
     where
       front : get_or l.columns.waiting b [] ≡ p.number ∷ numbers rest
       front = sym (column_is b) ∙ ap numbers w
 
-      left : map numbers_in (changed bs b after_take) ≡ set l.columns.waiting b (drop 1 (get_or l.columns.waiting b []))
-      left = map-set numbers_in bs b (after_take (bearer_of bs b)) ∙ cc (t.waiting, w, front)
-
-      by : (room : Bool) → Tally depths size (changed bs b after_take) h (cond room (q ++ p ∷ []) q) o (cond room n (one_queue_full n)) (record l { columns = taken_from room b l.columns })
-      by true = record {
-        waiting = left;
-        depths_are = map-set_same depth_of bs b (after_take (bearer_of bs b)) absent refl ∙ t.depths_are;
-        serving = e;
-        size_is = t.size_is;
-        queue = map_push (λ (p : Packet). p.number) q p ∙ cc (t.queue, front);
-        out = t.out;
-        counts = t.counts;
-      }
-      by false = record {
-        waiting = left;
-        depths_are = map-set_same depth_of bs b (after_take (bearer_of bs b)) absent refl ∙ t.depths_are;
-        serving = e;
-        size_is = t.size_is;
-        queue = t.queue;
-        out = t.out;
-        counts = cc (t.counts, front, length_push l.columns.queue_full p.number);
-      }
-
   -- the queue's front goes out
-  one_fetched : (p : Packet) (rest : List Packet) → q ≡ p ∷ rest → Tally depths size bs g rest (o ++ p.number ∷ []) n (record l { columns = handed_out l.columns })
+  one_fetched : (p : Packet) (rest : List Packet) → q ≡ p ∷ rest →
+      Tally depths size bs g rest (o ++ p.number ∷ []) n (record l { columns = handed_out l.columns })
   one_fetched p rest e =
       let front : l.columns.queue ≡ p.number ∷ numbers rest = sym t.queue ∙ ap numbers e in
       record {
@@ -148,24 +139,17 @@ module _ {depths : List ℕ} {size : ℕ} {bs : List Bearer} {g : Option Grant} 
       }
 
   -- a number that is out is spent
-  one_spent : (finished : Bool) (m : ℕ) → Tally depths size bs g q (without m o) (cond finished (one_delivered n) (one_discarded n)) (record l { columns = spent finished m l.columns })
-  one_spent true m = record {
+  one_spent : (done : Bool) (m : ℕ) →
+      Tally depths size bs g q (without m o) (cond done (one_delivered n) (one_discarded n)) (record l { columns = spent done m l.columns })
+  one_spent done m = record {
     waiting = t.waiting;
     depths_are = t.depths_are;
     serving = t.serving;
     size_is = t.size_is;
     queue = t.queue;
     out = ap (without m) t.out;
-    counts = cc (t.counts, length_push l.columns.delivered m);
-  }
-  one_spent false m = record {
-    waiting = t.waiting;
-    depths_are = t.depths_are;
-    serving = t.serving;
-    size_is = t.size_is;
-    queue = t.queue;
-    out = ap (without m) t.out;
-    counts = cc (t.counts, length_push l.columns.discarded m);
+    counts = tested (λ f. cond f (one_delivered n) (one_discarded n) ≡ counts_of (record l { columns = spent f m l.columns })) done
+        (λ _. cc (t.counts, length_push l.columns.delivered m)) (λ _. cc (t.counts, length_push l.columns.discarded m));
   }
 
 -- the gate's setting
@@ -187,7 +171,8 @@ module _ (s : RawSettings) (p : Batches) (x : Core) (depths : List ℕ) (l : Led
   serves_last : (g : Grant) → x.grant ≡ Some g → g.bearer ≡ l.serving
   serves_last g e = subst (λ (h : Option Grant). Serving h l.serving) e t.serving
 
-  arrived_tally : (b : ℕ) (room : Bool) (y : Core) → has_room (bearer_of x.bearers b) ≡ room → TallyCore depths s y (arrives room b l) → TallyCore depths s y (arrives (column_room depths l b) b l)
+  arrived_tally : (b : ℕ) (room : Bool) (y : Core) → has_room (bearer_of x.bearers b) ≡ room →
+      TallyCore depths s y (arrives room b l) → TallyCore depths s y (arrives (column_room depths l b) b l)
   arrived_tally b room y h k = subst (λ r. TallyCore depths s y (arrives r b l)) (sym (column_room_is t b ∙ h)) k
 
   pub move_tally : (c : Call) (a : Answer) (y : Core) → Move s p x c a y → TallyCore depths s y (accepted depths c a l)
@@ -196,7 +181,15 @@ module _ (s : RawSettings) (p : Batches) (x : Core) (depths : List ℕ) (l : Led
       arrived_tally b true y r (one_more t b (behind (next_packet n tag x)) (next_packet n tag x) refl refl refl)
   move_tally _ _ y (signalled {b = b} {n = n} {t = tag} i r h) =
       arrived_tally b true y r (one_more t b (λ v. after_disarm (behind (next_packet n tag x) v)) (next_packet n tag x) refl refl refl)
-  move_tally _ _ _ (begun e i u h) = record { waiting = t.waiting; depths_are = t.depths_are; serving = refl; size_is = t.size_is; queue = t.queue; out = t.out; counts = t.counts }
+  move_tally _ _ _ (begun e i u h) = record {
+    waiting = t.waiting;
+    depths_are = t.depths_are;
+    serving = refl;
+    size_is = t.size_is;
+    queue = t.queue;
+    out = t.out;
+    counts = t.counts;
+  }
   move_tally _ _ _ (emptied {g = g} e w n) =
       regranted (reshown t g.bearer after_take (cc w) refl) (Some (record { bearer = g.bearer; left = 0 })) (serves_last g e)
   move_tally _ _ y (taken {g = g} {q = q} {rest = rest} {m = m} {room = room} e w n less r) =
@@ -208,7 +201,7 @@ module _ (s : RawSettings) (p : Batches) (x : Core) (depths : List ℕ) (l : Led
   move_tally _ _ _ (completed {g = g} {o = o} e w n i) =
       let b : ℕ = g.bearer in
       regranted (cond_both o _ _ (λ (bs : List Bearer). Tally depths s.size bs x.grant x.queue x.out x.counts l)
-      (λ _. reshown t b (after_arm false) (armed_shows numbers_in (λ _. refl) (bearer_of x.bearers b)) (armed_shows depth_of (λ _. refl) (bearer_of x.bearers b)))
+      (λ _. let v : Bearer = bearer_of x.bearers b in reshown t b (after_arm false) (armed_shows numbers_in (λ _. refl) v) (armed_shows depth_of (λ _. refl) v))
       (λ _. t)) None tt
   move_tally _ _ _ (worked i h) = t
   move_tally _ _ _ (fetched {q = q} {rest = rest} e) = one_fetched t q rest e

@@ -21,7 +21,8 @@ pub record Unmoved (x y : Core) : Type 0 where
   pub listed : y.listed ≡ x.listed ++ joined
 
 -- what the bearers show apart from arming and signals is as it was: of one bearer, and of all
-pub unmoved_bearer : {A : Type 0} (f : Bearer → A) → ((v : Bearer) → f (after_disarm v) ≡ f v) → (x y : Core) → Unmoved x y → (b : ℕ) → f (bearer_of y.bearers b) ≡ f (bearer_of x.bearers b)
+pub unmoved_bearer : {A : Type 0} (f : Bearer → A) → ((v : Bearer) → f (after_disarm v) ≡ f v) → (x y : Core) → Unmoved x y →
+    (b : ℕ) → f (bearer_of y.bearers b) ≡ f (bearer_of x.bearers b)
 unmoved_bearer f same x y u b = sym (shown y.bearers) ∙ ap (λ bs. f (bearer_of bs b)) u.bearers ∙ shown x.bearers
   where
     shown : (bs : List Bearer) → f (bearer_of (map after_disarm bs) b) ≡ f (bearer_of bs b)
@@ -34,7 +35,8 @@ unmoved_bearers f same x y u = sym (shown y.bearers) ∙ ap (map f) u.bearers �
     shown [] = refl
     shown (v ∷ bs) = cc (same v, shown bs)
 
-rearmed : (f : Bearer → Bearer) → ((v : Bearer) → after_disarm (f v) ≡ after_disarm v) → (bs : List Bearer) (b : ℕ) → map after_disarm (changed bs b f) ≡ map after_disarm bs
+rearmed : (f : Bearer → Bearer) → ((v : Bearer) → after_disarm (f v) ≡ after_disarm v) → (bs : List Bearer) (b : ℕ) →
+    map after_disarm (changed bs b f) ≡ map after_disarm bs
 rearmed f same bs b = map-set_same after_disarm bs b (f (bearer_of bs b)) absent (same (bearer_of bs b))
 
 -- arming leaves all else of a bearer as it was
@@ -77,7 +79,17 @@ module _ (x : Core) where
 
   -- another board that shows the same
   reshown : (bs : List Bearer) → map after_disarm bs ≡ map after_disarm x.bearers → Unmoved x (record x { bearers = bs })
-  reshown bs e = record { bearers = e; clock = refl; hold = refl; grant = refl; queue = refl; out = refl; counts = refl; joined = []; listed = sym (append-nil x.listed) }
+  reshown bs e = record {
+    bearers = e;
+    clock = refl;
+    hold = refl;
+    grant = refl;
+    queue = refl;
+    out = refl;
+    counts = refl;
+    joined = [];
+    listed = sym (append-nil x.listed);
+  }
 
   unmoved_same : Unmoved x x
   unmoved_same = reshown x.bearers refl
