@@ -16,6 +16,7 @@ use Rattle.machine.proofs.Runs.{made, throughout, each_call, if_running}
 use Rattle.machine.proofs.Tally.{numbers_in, depth_of, TallyCore, move_tally, move_true, gate_tally}
 use Rattle.machine.proofs.Pushed.{ledger_push}
 use Rattle.machine.proofs.Basics.{none_left}
+use Rattle.std.proofs.lemmas.Simd.{map-map}
 
 -- before it is configured, the ledger is empty
 abbrev TallyState : List ℕ → State → Ledger → Type 0
@@ -28,15 +29,11 @@ fresh_waiting : (i : ℕ) (bs : List Bearer) → Passed (waiting_checks i bs) �
 fresh_waiting i [] h = refl
 fresh_waiting i (v ∷ bs) h = cc (none_left v.waiting (not-true (any_waiting v.waiting) h.0), fresh_waiting (i + 1) bs h.1)
 
-fresh_depths : (bs : List Bearer) → map depth_of (map (λ v. after_arm false (after_disarm v)) bs) ≡ depths_of bs
-fresh_depths [] = refl
-fresh_depths (v ∷ bs) = ap (λ ds. v.depth ∷ ds) (fresh_depths bs)
-
 fresh_tally : (s : RawSettings) (bs : List Bearer) → Passed (waiting_checks 0 bs) →
     TallyCore (depths_of bs) s (fresh bs) (record (nothing (length bs)) { size = s.size })
 fresh_tally s bs h = record {
   waiting = fresh_waiting 0 bs h;
-  depths_are = fresh_depths bs;
+  depths_are = map-map depth_of _ bs;
   serving = tt;
   size_is = refl;
   queue = refl;

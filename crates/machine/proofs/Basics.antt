@@ -1,8 +1,10 @@
 -- Small facts about tests, lists and changed bearers.
-use Rattle.std.proofs.Common.{◌≡◌, ℕ, zero, suc, ◌<◌, ◌≤◌, Bool, true, false, ltb, List, [], ◌∷◌, map, length, set, sym, refl, ap, ◌∙◌, subst, ⊎_elim, arith, get_or}
+use Rattle.std.proofs.Common.{◌≡◌, ℕ, zero, suc, ◌<◌, ◌≤◌, Bool, true, false, ltb, List, [], ◌∷◌, map, length, set, sym, refl, ap, ◌∙◌, subst, ⊎_elim, arith, get_or, ◌+◌}
 use Rattle.std.proofs.lemmas.List.{set-get_or, get_or-set_other, get_or_past, nil_from_length, get_or-set_same, set_past}
 use Rattle.std.proofs.lemmas.Bool.{cases_lt, cases_eq, ltb-false}
 use Rattle.board.specs.Bearers.{Bearer, absent, bearer_of, changed}
+use Rattle.machine.specs.State.{Core}
+use Rattle.machine.specs.Moves.{on_each}
 
 -- what holds of each value of a test
 pub tested : (P : Bool → Type 0) (b : Bool) → (b ≡ true → P true) → (b ≡ false → P false) → P b
@@ -48,3 +50,9 @@ at_mapped P f (x ∷ bs) (suc b) none there = at_mapped P f bs b none there
 -- nothing is left
 pub none_left : {A : Type 0} (xs : List A) → ltb 0 (length xs) ≡ false → xs ≡ []
 none_left xs h = nil_from_length xs (omega (arith, ltb-false 0 (length xs) h))
+
+-- what each move keeps, moves on one bearer after another keep
+pub on_each_keeps : (P : Core → Type 0) (move : ℕ → Core → Core) → ((b : ℕ) (x : Core) → P x → P (move b x)) → (i n : ℕ) (x : Core) → P x →
+    P (on_each move i n x)
+on_each_keeps P move keep i zero x h = h
+on_each_keeps P move keep i (suc n) x h = on_each_keeps P move keep (i + 1) n (move i x) (keep i x h)

@@ -7,14 +7,11 @@ use Rattle.board.proofs.Changes.{changed_twice}
 use Rattle.machine.specs.declared.calls.RawSettings.{RawSettings}
 use Rattle.machine.specs.State.{Grant, Core, waits, busy, is_open}
 use Rattle.machine.specs.Moves.{arm, join, open_bearer, on_each, open_gate, shut_gate, set_gate}
-use Rattle.machine.proofs.Basics.{at_changed, on_changed, at_mapped, none_left, past_disarmed}
+use Rattle.machine.proofs.Basics.{at_changed, on_changed, at_mapped, none_left, past_disarmed, on_each_keeps}
 use Rattle.machine.proofs.Loads.{turns, load, Calm, calm_armed, calm_disarmed, TidyCore, times-append, busy_turns, free_turns}
+use Rattle.machine.proofs.Unmoved.{unmoved_opened}
 
--- moves on each bearer in turn: what every move keeps; and what each move reaches at its own bearer and every move keeps
-pub on_each_keeps : (P : Core → Type 0) (move : ℕ → Core → Core) → ((b : ℕ) (x : Core) → P x → P (move b x)) → (i n : ℕ) (x : Core) → P x → P (on_each move i n x)
-on_each_keeps P move keep i zero x h = h
-on_each_keeps P move keep i (suc n) x h = on_each_keeps P move keep (i + 1) n (move i x) (keep i x h)
-
+-- of moves on each bearer in turn: what each reaches at its own bearer and every move keeps
 pub on_each_reaches : (P : Core → Type 0) (Q : ℕ → Core → Type 0) (move : ℕ → Core → Core) → ((b : ℕ) (x : Core) → P x → P (move b x)) →
     ((b : ℕ) (x : Core) → P x → Q b (move b x)) → ((b c : ℕ) (x : Core) → P x → Q c x → Q c (move b x)) →
     (i n : ℕ) (x : Core) → P x → (c : ℕ) → i ≤ c → c < i + n → Q c (on_each move i n x)
@@ -120,26 +117,21 @@ shut_tidy gate x t = record {
   ready = λ e. cc e;
 }
 
--- the gate moves nothing that decides whether it is open
-opened_open : (s : RawSettings) (x : Core) → is_open s (open_gate x) ≡ is_open s x
-unfolding open_gate
-opened_open s x = on_each_keeps (λ y. is_open s y ≡ is_open s x) open_bearer
-    (λ b y e. cond_both (busy y b) _ _ (λ (z : Core). is_open s z ≡ is_open s x) (λ _. e)
-    (λ _. cond_both (any_waiting (waits y.bearers b)) _ _ (λ (z : Core). is_open s z ≡ is_open s x) (λ _. e) (λ _. e)))
-    0 (length x.bearers) x refl
-
 pub gate_tidy : (s : RawSettings) (x y : Core) → TidyCore (is_open s x) y → TidyCore (is_open s (set_gate s x y)) (set_gate s x y)
 unfolding set_gate shut_gate
 gate_tidy s x y t =
     cond_both (is_open s x) _ _ TidyAt
     (λ was. cond_both (is_open s y) _ _ TidyAt (λ is. same was is) (λ is. at_gate is (shut_tidy (is_open s x) y t)))
-    (λ was. cond_both (is_open s y) _ _ TidyAt (λ is. subst (λ o. TidyCore o (open_gate y)) (sym (opened_open s y ∙ is)) (opened_tidy y (subst (λ o. TidyCore o y) was t))) (λ is. same was is))
+    (λ was. cond_both (is_open s y) _ _ TidyAt (λ is. opened is (opened_tidy y (subst (λ o. TidyCore o y) was t))) (λ is. same was is))
   where
     TidyAt : Core → Type 0
     TidyAt z = TidyCore (is_open s z) z
 
     same : {o : Bool} → is_open s x ≡ o → is_open s y ≡ o → TidyAt y
     same was is = subst (λ o. TidyCore o y) (was ∙ sym is) t
+
+    opened : is_open s y ≡ true → TidyCore true (open_gate y) → TidyAt (open_gate y)
+    opened is h = let u = unmoved_opened y in subst (λ o. TidyCore o (open_gate y)) (cc (is, u.clock, u.hold)) h
 
     at_gate : is_open s y ≡ false → TidyCore false (shut_gate y) → TidyAt (shut_gate y)
     at_gate is h = subst (λ o. TidyCore o (shut_gate y)) (sym is) h

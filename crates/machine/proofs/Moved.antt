@@ -1,7 +1,7 @@
 -- What a call comes to: it is refused, it configures, or it is one of the moves below. Every law is shown by these cases.
 use Rattle.std.proofs.Common.{◌≡◌, ℕ, ◌+◌, ◌-◌, ◌<◌, ◌≤◌, Bool, true, false, cond, ◌||◌, eqb, leb, List, [], ◌∷◌, ◌++◌, length, get_or, drop, Some, None, Ok, Err, Option, Result, sym, refl, ap, ◌∙◌, subst, arith}
 use Rattle.std.specs.List.{slice_get}
-use Rattle.std.proofs.lemmas.Bool.{cond_both, cond-true, cond-false, ltb-true, leb-true, eqb-true, eqb-false, and_parts}
+use Rattle.std.proofs.lemmas.Bool.{cond_both, cond-true, cond-false, ltb-true, leb-true, eqb-true, eqb-false}
 use Rattle.board.specs.declared.packets.Packet.{Packet}
 use Rattle.board.specs.Bearers.{blank, Bearer, bearer_of, changed, has_room, any_waiting, after_offer, after_arm, after_disarm}
 use Rattle.board.specs.Costs.{cost_of_length}
@@ -47,14 +47,14 @@ pub data Move (s : RawSettings) (p : Batches) (x : Core) : Call → Answer → C
   begun : {b : ℕ} {rest : List ℕ} → x.grant ≡ None → x.listed ≡ b ∷ rest → x.clock.used < s.limit → x.hold ≡ 0 →
       Move s p x Step (Stepped (Begun b (p.quota b (length (waits x.bearers b)))))
       (charge s 80 (record x { listed = rest; grant = Some (record { bearer = b; left = p.quota b (length (waits x.bearers b)) }) }))
-  emptied : {g : Grant} → x.grant ≡ Some g → waits x.bearers g.bearer ≡ [] → (g.left ≡ 0 → ⊥) →
+  emptied : {g : Grant} → x.grant ≡ Some g → waits x.bearers g.bearer ≡ [] →
       Move s p x Step (Stepped Empty) (left_with g 0 (taken_off g x))
   taken : {g : Grant} {q : Packet} {rest : List Packet} {m h : ℕ} {room : Bool} → x.grant ≡ Some g → waits x.bearers g.bearer ≡ q ∷ rest → (g.left ≡ 0 → ⊥) →
       m ≤ g.left - 1 → has_queue_room s x ≡ room → Move s p x Step (Stepped (Taken q.number room)) (took s g q m h room x)
-  rescheduled : {g : Grant} → x.grant ≡ Some g → g.left ≡ 0 → Move s p x Step (Stepped Rescheduled) (record (join g.bearer x) { grant = None })
-  completed : {g : Grant} {o : Bool} → x.grant ≡ Some g → waits x.bearers g.bearer ≡ [] → g.left ≡ 0 → is_open s x ≡ o →
+  rescheduled : {g : Grant} → x.grant ≡ Some g → Move s p x Step (Stepped Rescheduled) (record (join g.bearer x) { grant = None })
+  completed : {g : Grant} {o : Bool} → x.grant ≡ Some g → waits x.bearers g.bearer ≡ [] → is_open s x ≡ o →
       Move s p x Step (Stepped Completed) (record x { bearers = cond o (changed x.bearers g.bearer (after_arm false)) x.bearers; grant = None })
-  worked : {c : ℕ} → 1 ≤ c → x.clock.elapsed + c ≤ s.period → Move s p x (Work c) Worked (offer_cycles s c x)
+  worked : {c : ℕ} → x.clock.elapsed + c ≤ s.period → Move s p x (Work c) Worked (offer_cycles s c x)
   fetched : {q : Packet} {rest : List Packet} {h : ℕ} → x.queue ≡ q ∷ rest →
       Move s p x Fetch (Fetched q) (record x { hold = h; queue = rest; out = x.out ++ q.number ∷ [] })
   finished : {n : ℕ} → holds n x.out ≡ true → Move s p x (Finish n) Finished (finish n x).1
@@ -128,12 +128,13 @@ module _ (s : RawSettings) (p : Batches) (x : Core) where
   begin_moves [] e g u h a = cc a
   begin_moves (b ∷ rest) e g u h a = begun g e u h
 
-  close_moves : (g : Grant) → x.grant ≡ Some g → g.left ≡ 0 → Moves Step (close s g x)
-  close_moves g e n = cond_both (any_waiting (waits x.bearers g.bearer)) _ _ (Moves Step) (λ _. rescheduled e n)
-      (λ h. cond_both (is_open s x) _ _ (λ (y : Core). Move s p x Step (Stepped Completed) (record y { grant = None })) (completed e (none_left _ h) n) (completed e (none_left _ h) n))
+  close_moves : (g : Grant) → x.grant ≡ Some g → Moves Step (close s g x)
+  close_moves g e = cond_both (any_waiting (waits x.bearers g.bearer)) _ _ (Moves Step) (λ _. rescheduled e)
+      (λ h. cond_both (is_open s x) _ _ (λ (y : Core). Move s p x Step (Stepped Completed) (record y { grant = None }))
+      (completed e (none_left _ h)) (completed e (none_left _ h)))
 
   take_moves : (g : Grant) (w : List Packet) → x.grant ≡ Some g → (g.left ≡ 0 → ⊥) → waits x.bearers g.bearer ≡ w → Moves Step (take_by s g (slice_get w 0) x)
-  take_moves g [] e n h = emptied e h n
+  take_moves g [] e n h = emptied e h
   take_moves g (q ∷ rest) e n h = tested (λ room. Takes room (high_marked s g (after room))) (has_queue_room s x) (marked true) (marked false)
     where
       Takes : Bool → Core → Type 0
@@ -159,7 +160,7 @@ module _ (s : RawSettings) (p : Batches) (x : Core) where
   serve_moves : (g : Grant) → x.grant ≡ Some g → Moves Step (serve s g x)
   unfolding serve
   serve_moves g e = cond_both (eqb g.left 0) _ _ (Moves Step)
-      (λ n. close_moves g e (eqb-true g.left 0 n))
+      (λ _. close_moves g e)
       (λ n. take_moves g (waits x.bearers g.bearer) e (eqb-false g.left 0 n) refl)
 
   fetch_moves : (l : List Packet) → x.queue ≡ l → any_left l ≡ true →
@@ -190,7 +191,7 @@ module _ (s : RawSettings) (p : Batches) (x : Core) where
   running_comes (Arrive b n t) = checked_comes (Arrive b n t) (arrive_checks b n x) (arrive s b n t x) (λ h. arrive_moves b n t (ltb-true b (length x.bearers) h.1.0))
   running_comes Step = step_comes x.grant refl
   running_comes (Work c) = checked_comes (Work c) (work_checks s c x) (work s c x)
-      (λ h. worked (leb-true 1 c (and_parts (leb 1 c) (leb c s.period) h.1.0).0) (leb-true (x.clock.elapsed + c) s.period h.1.1.0))
+      (λ h. worked (leb-true (x.clock.elapsed + c) s.period h.1.1.0))
   running_comes Fetch = checked_comes Fetch (fetch_checks x) (fetch s x) (λ h. fetch_moves x.queue refl h.0)
   running_comes (Finish n) = checked_comes (Finish n) (out_checks n x) (finish n x) (λ h. finished h.0)
   running_comes (Discard n) = checked_comes (Discard n) (out_checks n x) (discard n x) (λ h. discarded h.0)

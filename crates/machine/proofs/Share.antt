@@ -22,7 +22,7 @@ use Rattle.machine.proofs.Loads.{TidyCore, TidyState}
 use Rattle.machine.proofs.Tidy.{keeps_tidy}
 use Rattle.machine.proofs.Moved.{behind, Move, stored, signalled, begun, emptied, taken, rescheduled, completed, worked, Happens, refused, asked_idle, configured, moved}
 use Rattle.machine.proofs.Runs.{made, at_end, if_running}
-use Rattle.machine.proofs.Unmoved.{Unmoved, gate_unmoved, unmoved_bearer, armed_shows}
+use Rattle.machine.proofs.Unmoved.{Unmoved, gate_unmoved, unmoved_bearer, armed_same}
 use Rattle.machine.proofs.Periods.{Booked, settled, Accounts, runs_on, settles}
 
 -- no length costs more than the last class, and no bearer more than the highest cost
@@ -117,19 +117,19 @@ module _ (p : Batches) (start : List Bearer) where
         i.few (omega (arith, i.few, below_limit b e))
     move_funded _ _ _ (begun {b = b} g e u z) n =
         charged x i n x.bearers _ i.cheap 80 (quota_due b _) (omega (arith, quota_due b (length (waits x.bearers b))))
-    move_funded _ _ _ (emptied {g = g} e w some) n = kept x i n _ _ (cheap_changed x.bearers g.bearer after_take refl i.cheap) (omega arith)
+    move_funded _ _ _ (emptied {g = g} e w) n = kept x i n _ _ (cheap_changed x.bearers g.bearer after_take refl i.cheap) (omega arith)
     move_funded _ _ _ (taken {g = g} {q = q} {m = m} e w some less r) n =
         charged x i n _ _ (cheap_changed x.bearers g.bearer after_take refl i.cheap) ((bearer_of x.bearers g.bearer).cost + cost_of_length q.length)
         (omega (arith, i.few, one_fewer g m e some less))
         (omega (arith, i.accounts.bound, i.cheap g.bearer, length_cheap q.length, one_fewer g m e some less))
-    move_funded _ _ _ (rescheduled e z) n = kept x i n x.bearers None i.cheap (omega arith)
-    move_funded _ _ _ (completed {g = g} {o = o} e w z r) n =
+    move_funded _ _ _ (rescheduled e) n = kept x i n x.bearers None i.cheap (omega arith)
+    move_funded _ _ _ (completed {g = g} {o = o} e w r) n =
         kept x i n _ None
         (cond_both o _ _ Cheap
-        (λ _. cheap_changed x.bearers g.bearer (after_arm false) (armed_shows (λ v. v.cost) (λ _. refl) (bearer_of x.bearers g.bearer)) i.cheap)
+        (λ _. cheap_changed x.bearers g.bearer (after_arm false) (ap (λ (v : Bearer). v.cost) (armed_same (bearer_of x.bearers g.bearer))) i.cheap)
         (λ _. i.cheap))
         (omega arith)
-    move_funded _ _ _ (worked l r) n = record {
+    move_funded _ _ _ (worked r) n = record {
       accounts = settles s _ _ (runs_on s _ i.accounts n refl (omega arith) refl (omega arith) i.accounts.bound (omega (arith, i.accounts.spent)));
       few = i.few;
       cheap = i.cheap;

@@ -19,7 +19,7 @@ use Rattle.machine.specs.Ledger.{Ledger, column, column_room, queue_room, arrive
 use Rattle.machine.specs.Laws.{numbers, TrueAnswer}
 use Rattle.machine.specs.Calls.{without, next_packet}
 use Rattle.machine.proofs.Moved.{behind, Move, lost, stored, signalled, begun, emptied, taken, rescheduled, completed, worked, fetched, finished, discarded, told}
-use Rattle.machine.proofs.Unmoved.{unmoved_bearers, gate_unmoved, armed_shows}
+use Rattle.machine.proofs.Unmoved.{unmoved_bearers, gate_unmoved, armed_same}
 use Rattle.machine.proofs.Basics.{tested}
 
 -- what a column has of a bearer, and a bearer's depth
@@ -190,20 +190,20 @@ module _ (s : RawSettings) (p : Batches) (x : Core) (depths : List ℕ) (l : Led
     out = t.out;
     counts = t.counts;
   }
-  move_tally _ _ _ (emptied {g = g} e w n) =
+  move_tally _ _ _ (emptied {g = g} e w) =
       regranted (reshown t g.bearer after_take (cc w) refl) (Some (record { bearer = g.bearer; left = 0 })) (serves_last g e)
   move_tally _ _ y (taken {g = g} {q = q} {rest = rest} {m = m} {room = room} e w n less r) =
       let last = serves_last g e in
       subst (λ b. TallyCore depths s y (record l { columns = taken_from (queue_room l) b l.columns })) last
       (subst (λ o. TallyCore depths s y (record l { columns = taken_from o g.bearer l.columns })) (sym (queue_room_is t ∙ r))
       (one_taken t g.bearer q rest (Some (record { bearer = g.bearer; left = m })) w last room))
-  move_tally _ _ _ (rescheduled e n) = regranted t None tt
-  move_tally _ _ _ (completed {g = g} {o = o} e w n i) =
+  move_tally _ _ _ (rescheduled e) = regranted t None tt
+  move_tally _ _ _ (completed {g = g} {o = o} e w i) =
       let b : ℕ = g.bearer in
       regranted (cond_both o _ _ (λ (bs : List Bearer). Tally depths s.size bs x.grant x.queue x.out x.counts l)
-      (λ _. let v : Bearer = bearer_of x.bearers b in reshown t b (after_arm false) (armed_shows numbers_in (λ _. refl) v) (armed_shows depth_of (λ _. refl) v))
+      (λ _. let same = armed_same (bearer_of x.bearers b) in reshown t b (after_arm false) (ap numbers_in same) (ap depth_of same))
       (λ _. t)) None tt
-  move_tally _ _ _ (worked i h) = t
+  move_tally _ _ _ (worked h) = t
   move_tally _ _ _ (fetched {q = q} {rest = rest} e) = one_fetched t q rest e
   move_tally _ _ _ (finished {n = n} h) = one_spent t true n
   move_tally _ _ _ (discarded {n = n} h) = one_spent t false n
@@ -225,14 +225,14 @@ module _ (s : RawSettings) (p : Batches) (x : Core) (depths : List ℕ) (l : Led
   move_true _ _ _ (stored {b = b} {n = n} {t = tag} i r h) = arrived_true b n tag true i r
   move_true _ _ _ (signalled {b = b} {n = n} {t = tag} i r h) = arrived_true b n tag true i r
   move_true _ _ _ (begun e i u h) = tt
-  move_true _ _ _ (emptied e w n) = tt
+  move_true _ _ _ (emptied e w) = tt
   move_true _ _ _ (taken {g = g} {q = q} e w n less r) = (
     ap (λ k. slice_get k 0) (ap (column l) (sym (serves_last g e)) ∙ sym (column_is t g.bearer) ∙ ap numbers w),
     sym (queue_room_is t ∙ r),
   )
-  move_true _ _ _ (rescheduled e n) = tt
-  move_true _ _ _ (completed e w n i) = tt
-  move_true _ _ _ (worked i h) = refl
+  move_true _ _ _ (rescheduled e) = tt
+  move_true _ _ _ (completed e w i) = tt
+  move_true _ _ _ (worked h) = refl
   move_true _ _ _ (fetched {q = q} e) = (q, refl, ap (λ k. slice_get k 0) (sym t.queue ∙ ap numbers e))
   move_true _ _ _ (finished {n = n} h) = (refl, out_is n h)
   move_true _ _ _ (discarded {n = n} h) = (refl, out_is n h)

@@ -60,7 +60,7 @@ module _ (c b : ℕ) where
         let m : turns x.listed x.grant b ≤ 1 = omega (arith, t.once b) in
         rw i (first_leaves d n ns (rw (e, i) at l) (rw (e, i) at m))
     move_pays s x _ _ _ t w (signalled {b = n} l r h) = omega (arith, slack-append x.listed (n ∷ []))
-    move_pays s x _ _ _ t w (rescheduled {g = g} e n) = omega (arith, slack-append x.listed (g.bearer ∷ []))
+    move_pays s x _ _ _ t w (rescheduled {g = g} e) = omega (arith, slack-append x.listed (g.bearer ∷ []))
     move_pays s x _ _ _ t w _ = omega arith
 
     call_pays : (t u : State) (k : Call) (r : Result Answer Refusal) → TidyState t → Waiting c t → Happens p t k r u →

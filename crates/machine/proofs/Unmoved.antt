@@ -7,7 +7,8 @@ use Rattle.board.specs.Bearers.{Bearer, absent, bearer_of, changed, any_waiting,
 use Rattle.machine.specs.declared.calls.RawSettings.{RawSettings}
 use Rattle.machine.specs.State.{Core, waits, busy, is_open}
 use Rattle.machine.specs.Moves.{arm, open_bearer, open_gate, shut_gate, set_gate}
-use Rattle.machine.proofs.Gate.{on_each_keeps}
+use Rattle.machine.proofs.Basics.{on_each_keeps}
+use Rattle.std.proofs.lemmas.Simd.{map-map}
 
 pub record Unmoved (x y : Core) : Type 0 where
   pub bearers : map after_disarm y.bearers ≡ map after_disarm x.bearers
@@ -40,11 +41,8 @@ rearmed : (f : Bearer → Bearer) → ((v : Bearer) → after_disarm (f v) ≡ a
 rearmed f same bs b = map-set_same after_disarm bs b (f (bearer_of bs b)) absent (same (bearer_of bs b))
 
 -- arming leaves all else of a bearer as it was
-armed_same : (v : Bearer) → after_disarm (after_arm false v) ≡ after_disarm v
+pub armed_same : (v : Bearer) → after_disarm (after_arm false v) ≡ after_disarm v
 armed_same v = cond_both v.armed _ _ (λ (w : Bearer). after_disarm w ≡ after_disarm v) (λ _. refl) (λ _. refl)
-
-pub armed_shows : {A : Type 0} (f : Bearer → A) → ((v : Bearer) → f (after_disarm v) ≡ f v) → (v : Bearer) → f (after_arm false v) ≡ f v
-armed_shows f same v = sym (same (after_arm false v)) ∙ ap f (armed_same v) ∙ same v
 
 module _ (x : Core) where
   unmoved_open : (b : ℕ) (y : Core) → Unmoved x y → Unmoved x (open_bearer b y)
@@ -94,17 +92,13 @@ module _ (x : Core) where
   unmoved_same : Unmoved x x
   unmoved_same = reshown x.bearers refl
 
-  unmoved_opened : Unmoved x (open_gate x)
+  pub unmoved_opened : Unmoved x (open_gate x)
   unfolding open_gate
   unmoved_opened = on_each_keeps (Unmoved x) open_bearer unmoved_open 0 (length x.bearers) x unmoved_same
 
   unmoved_shut : Unmoved x (shut_gate x)
   unfolding shut_gate
-  unmoved_shut = reshown (map after_disarm x.bearers) (twice x.bearers)
-    where
-      twice : (bs : List Bearer) → map after_disarm (map after_disarm bs) ≡ map after_disarm bs
-      twice [] = refl
-      twice (v ∷ bs) = ap (λ k. after_disarm v ∷ k) (twice bs)
+  unmoved_shut = reshown (map after_disarm x.bearers) (map-map after_disarm after_disarm x.bearers)
 
 pub gate_unmoved : (s : RawSettings) (x y : Core) → Unmoved y (set_gate s x y)
 unfolding set_gate
