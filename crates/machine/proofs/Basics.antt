@@ -1,10 +1,11 @@
 -- Small facts about tests, lists and changed bearers.
-use Rattle.std.proofs.Common.{◌≡◌, ℕ, zero, suc, ◌<◌, ◌≤◌, Bool, true, false, ltb, List, [], ◌∷◌, map, length, set, sym, refl, ap, ◌∙◌, subst, ⊎_elim, arith, get_or, ◌+◌}
+use Rattle.std.proofs.Common.{◌≡◌, ℕ, zero, suc, ◌<◌, ◌≤◌, Bool, true, false, ltb, List, [], ◌∷◌, map, length, set, sym, refl, ap, ◌∙◌, subst, ⊎_elim, arith, get_or, ◌+◌, ◌++◌}
 use Rattle.std.proofs.lemmas.List.{set-get_or, get_or-set_other, get_or_past, nil_from_length, get_or-set_same, set_past}
 use Rattle.std.proofs.lemmas.Bool.{cases_lt, cases_eq, ltb-false}
 use Rattle.board.specs.Bearers.{Bearer, absent, bearer_of, changed}
 use Rattle.machine.specs.State.{Core}
 use Rattle.machine.specs.Moves.{on_each}
+use Rattle.machine.specs.Numbers.{times}
 
 -- what holds of each value of a test
 pub tested : (P : Bool → Type 0) (b : Bool) → (b ≡ true → P true) → (b ≡ false → P false) → P b
@@ -56,3 +57,7 @@ pub on_each_keeps : (P : Core → Type 0) (move : ℕ → Core → Core) → ((b
     P (on_each move i n x)
 on_each_keeps P move keep i zero x h = h
 on_each_keeps P move keep i (suc n) x h = on_each_keeps P move keep (i + 1) n (move i x) (keep i x h)
+
+pub times-append : (n : ℕ) (l m : List ℕ) → times n (l ++ m) ≡ times n l + times n m
+times-append n [] m = omega arith
+times-append n (h ∷ t) m = omega (arith, times-append n t m)

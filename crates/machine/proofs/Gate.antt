@@ -7,8 +7,8 @@ use Rattle.board.proofs.Changes.{changed_twice}
 use Rattle.machine.specs.declared.calls.RawSettings.{RawSettings}
 use Rattle.machine.specs.State.{Grant, Core, waits, busy, is_open}
 use Rattle.machine.specs.Moves.{arm, join, open_bearer, on_each, open_gate, shut_gate, set_gate}
-use Rattle.machine.proofs.Basics.{at_changed, on_changed, at_mapped, none_left, past_disarmed, on_each_keeps}
-use Rattle.machine.proofs.Loads.{turns, load, Calm, calm_armed, calm_disarmed, TidyCore, times-append, busy_turns, free_turns}
+use Rattle.machine.proofs.Basics.{at_changed, on_changed, at_mapped, none_left, past_disarmed, on_each_keeps, times-append}
+use Rattle.machine.proofs.Loads.{turns, load, Calm, calm_armed, calm_disarmed, TidyCore, busy_turns, free_turns}
 use Rattle.machine.proofs.Unmoved.{unmoved_opened}
 
 -- of moves on each bearer in turn: what each reaches at its own bearer and every move keeps

@@ -1,8 +1,8 @@
 -- How often a bearer is armed, listed or served, counted together; and the invariant of arming, signals, poll list and grant.
-use Rattle.std.proofs.Common.{◌≡◌, ℕ, ◌+◌, ◌<◌, ◌≤◌, Bool, true, false, cond, List, [], ◌∷◌, ◌++◌, length, Option, refl, arith}
+use Rattle.std.proofs.Common.{◌≡◌, ℕ, ◌+◌, ◌<◌, ◌≤◌, Bool, true, false, cond, List, [], ◌∷◌, length, Option, refl, arith}
 use Rattle.board.specs.Bearers.{Bearer, bearer_of, after_arm, after_disarm}
-use Rattle.machine.specs.State.{Grant, Core, State, idle, running, holds, serves, busy, is_open}
-use Rattle.machine.specs.Laws.{times}
+use Rattle.machine.specs.State.{Grant, Core, State, idle, running, serves, busy, is_open}
+use Rattle.machine.specs.Numbers.{holds, times}
 
 abbrev pub turns : List ℕ → Option Grant → ℕ → ℕ
 turns l g b = times b l + cond (serves g b) 1 0
@@ -35,10 +35,6 @@ TidyCore gate x = Tidy gate x.bearers x.listed x.grant
 abbrev pub TidyState : State → Type 0
 TidyState (idle bs) = Unit {0}
 TidyState (running s x) = TidyCore (is_open s x) x
-
-pub times-append : (n : ℕ) (l m : List ℕ) → times n (l ++ m) ≡ times n l + times n m
-times-append n [] m = omega arith
-times-append n (h ∷ t) m = omega (arith, times-append n t m)
 
 -- busy or not, as numbers
 held_times : (n : ℕ) (l : List ℕ) → holds n l ≡ true → 1 ≤ times n l

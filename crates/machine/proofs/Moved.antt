@@ -13,12 +13,14 @@ use Rattle.machine.specs.declared.calls.Call.{Call}
 use Rattle.machine.specs.declared.calls.Call.TheVariants.{Configure, Arrive, Step, Work, Fetch, Finish, Discard, Tell}
 use Rattle.machine.specs.declared.calls.RawSettings.{RawSettings}
 use Rattle.machine.specs.declared.refusals.Refusal.{Refusal}
-use Rattle.machine.specs.State.{Grant, Core, State, idle, running, Batches, waits, holds, is_open}
-use Rattle.machine.specs.Settings.{Check, first, settings_checks, grant_bound}
+use Rattle.machine.specs.State.{Grant, Core, State, idle, running, Batches, waits, is_open}
+use Rattle.machine.specs.Settings.{settings_checks, grant_bound}
 use Rattle.machine.specs.Moves.{join, charge, offer_cycles, set_gate, one_numbered, one_bearer_full, one_queue_full}
 use Rattle.machine.specs.Calls.{next_packet, left_with, taken_off, heard, arrive, begin, has_queue_room, high_marked, paid, take_by, close, serve, work, fetch, finish, discard, tell}
 use Rattle.machine.specs.Machine.{unless, any_left, no_counts, fresh, waiting_checks, configure_checks, idle_call, arrive_checks, step_checks, work_checks, fetch_checks, out_checks, step_by, checked, running_call, call}
 use Rattle.machine.proofs.Basics.{tested, changed_same, none_left}
+use Rattle.machine.specs.Checks.{Check, first_refusal}
+use Rattle.machine.specs.Numbers.{holds}
 
 -- a packet behind those that wait
 abbrev pub behind : Packet → Bearer → Bearer
@@ -66,11 +68,11 @@ abbrev pub Passed : List Check → Type 0
 Passed [] = Unit {0}
 Passed (c ∷ cs) = (c.0 ≡ true) × Passed cs
 
-pub all_passed : (cs : List Check) → first cs ≡ None → Passed cs
+pub all_passed : (cs : List Check) → first_refusal cs ≡ None → Passed cs
 all_passed [] h = tt
 all_passed (c ∷ cs) h = by (all_passed cs) c.0 h
   where
-    by : (first cs ≡ None → Passed cs) → (t : Bool) → cond t (first cs) (Some c.1) ≡ None → (t ≡ true) × Passed cs
+    by : (first_refusal cs ≡ None → Passed cs) → (t : Bool) → cond t (first_refusal cs) (Some c.1) ≡ None → (t ≡ true) × Passed cs
     by rest true h = (refl, rest h)
     by rest false h = cc
 
@@ -173,9 +175,9 @@ module _ (s : RawSettings) (p : Batches) (x : Core) where
   Comes c r = Happens p (running s x) c r.0 (running s r.1)
 
   checked_comes : (c : Call) (cs : List Check) (done : Answer × Core) → (Passed cs → Moves c done) → Comes c (checked s x cs done)
-  checked_comes c cs done m = by (first cs) refl
+  checked_comes c cs done m = by (first_refusal cs) refl
     where
-      by : (o : Option Refusal) → first cs ≡ o → Comes c (unless o x (done.0, set_gate s x done.1))
+      by : (o : Option Refusal) → first_refusal cs ≡ o → Comes c (unless o x (done.0, set_gate s x done.1))
       by (Some r) e = refused
       by None e = moved (m (all_passed cs e))
 
@@ -198,7 +200,7 @@ module _ (s : RawSettings) (p : Batches) (x : Core) where
   running_comes Tell = checked_comes Tell [] (tell x) (λ _. told)
 
 module _ (p : Batches) (bs : List Bearer) where
-  configure_comes : (s : RawSettings) (o : Option Refusal) → first (configure_checks p s bs) ≡ o →
+  configure_comes : (s : RawSettings) (o : Option Refusal) → first_refusal (configure_checks p s bs) ≡ o →
       Happens p (idle bs) (Configure s) (unless o (idle bs) (Configured, running s (fresh bs))).0 (unless o (idle bs) (Configured, running s (fresh bs))).1
   configure_comes s (Some r) e = refused
   configure_comes s None e =
@@ -207,7 +209,7 @@ module _ (p : Batches) (bs : List Bearer) where
       configured all.0 rest.0 (leb-true (s.limit + grant_bound p bs) s.period rest.1.0)
 
   idle_comes : (c : Call) → Happens p (idle bs) c (idle_call p c bs).0 (idle_call p c bs).1
-  idle_comes (Configure s) = configure_comes s (first (configure_checks p s bs)) refl
+  idle_comes (Configure s) = configure_comes s (first_refusal (configure_checks p s bs)) refl
   idle_comes Tell = asked_idle
   idle_comes _ = refused
 

@@ -8,14 +8,14 @@ use Rattle.machine.specs.declared.answers.Progress.TheVariants.{Begun, Empty, Ta
 use Rattle.machine.specs.declared.calls.Call.{Call}
 use Rattle.machine.specs.declared.calls.Call.TheVariants.{Configure, Arrive, Step, Work, Fetch, Finish, Discard, Tell}
 use Rattle.machine.specs.declared.refusals.Refusal.{Refusal}
-use Rattle.machine.specs.State.{idle, holds}
-use Rattle.machine.specs.Calls.{without}
+use Rattle.machine.specs.State.{idle}
 use Rattle.machine.specs.Trace.{trace}
 use Rattle.machine.specs.Ledger.{Ledger, column, nothing, arrives, taken_from, handed_out, spent, stepped, queue_room, column_room, accepted, told, depths_of, progress_in}
-use Rattle.machine.specs.Laws.{Always, TrueAnswer, Truly, times, times_in_all, places, OnePlace}
-use Rattle.machine.proofs.Loads.{times-append}
+use Rattle.machine.specs.Laws.{Always, TrueAnswer, Truly, times_in_all, places, OnePlace}
 use Rattle.machine.proofs.Pushed.{told_keeps}
 use Rattle.machine.proofs.Agreement.{true_answers}
+use Rattle.machine.specs.Numbers.{holds, without, times}
+use Rattle.machine.proofs.Basics.{times-append}
 
 -- the front of a column leaves it; of one column among all; and a number that is out leaves
 front_off : (n : ℕ) (c : List ℕ) → times n (drop 1 c) + times n (take 1 c) ≡ times n c

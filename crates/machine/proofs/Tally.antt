@@ -13,14 +13,15 @@ use Rattle.machine.specs.declared.answers.Answer.{Answer}
 use Rattle.machine.specs.declared.calls.Call.{Call}
 use Rattle.machine.specs.declared.calls.Call.TheVariants.{Arrive}
 use Rattle.machine.specs.declared.answers.Answer.TheVariants.{Arrived}
-use Rattle.machine.specs.State.{Grant, Core, Batches, waits, holds}
+use Rattle.machine.specs.State.{Grant, Core, Batches, waits}
 use Rattle.machine.specs.Moves.{one_numbered, one_bearer_full, one_queue_full, one_delivered, one_discarded, set_gate}
 use Rattle.machine.specs.Ledger.{Ledger, column, column_room, queue_room, arrives, taken_from, handed_out, spent, accepted, counts_of}
 use Rattle.machine.specs.Laws.{numbers, TrueAnswer}
-use Rattle.machine.specs.Calls.{without, next_packet}
+use Rattle.machine.specs.Calls.{next_packet}
 use Rattle.machine.proofs.Moved.{behind, Move, lost, stored, signalled, begun, emptied, taken, rescheduled, completed, worked, fetched, finished, discarded, told}
 use Rattle.machine.proofs.Unmoved.{unmoved_bearers, gate_unmoved, armed_same}
 use Rattle.machine.proofs.Basics.{tested}
+use Rattle.machine.specs.Numbers.{holds, without}
 
 -- what a column has of a bearer, and a bearer's depth
 abbrev pub numbers_in : Bearer → List ℕ

@@ -12,12 +12,13 @@ use Rattle.machine.specs.Settings.{settings_checks}
 use Rattle.machine.specs.Calls.{next_packet}
 use Rattle.machine.specs.Machine.{fresh, waiting_checks}
 use Rattle.machine.specs.Trace.{Throughout}
-use Rattle.machine.specs.Laws.{times, Heard, Always, OnceRunning, NeverDeaf, Quiet}
-use Rattle.machine.proofs.Basics.{at_changed, on_changed, at_mapped, none_left}
-use Rattle.machine.proofs.Loads.{turns, load, Calm, calm_armed, calm_disarmed, Tidy, TidyCore, TidyState, times-append, free_turns}
+use Rattle.machine.specs.Laws.{Heard, Always, OnceRunning, NeverDeaf, Quiet}
+use Rattle.machine.proofs.Basics.{at_changed, on_changed, at_mapped, none_left, times-append}
+use Rattle.machine.proofs.Loads.{turns, load, Calm, calm_armed, calm_disarmed, Tidy, TidyCore, TidyState, free_turns}
 use Rattle.machine.proofs.Gate.{gate_tidy}
 use Rattle.machine.proofs.Moved.{behind, Passed, Move, stored, signalled, begun, emptied, taken, rescheduled, completed, Happens, refused, asked_idle, configured, moved}
 use Rattle.machine.proofs.Runs.{throughout, if_running}
+use Rattle.machine.specs.Numbers.{times}
 
 module _ {gate : Bool} {bs : List Bearer} {l : List ℕ} {g : Option Grant} (t : Tidy gate bs l g) where
   -- other turns of the same number

@@ -8,12 +8,13 @@ use Rattle.machine.specs.declared.refusals.Refusal.{Refusal}
 use Rattle.machine.specs.State.{Core, State, idle, running, Batches, waits, is_open}
 use Rattle.machine.specs.Ledger.{progress_in}
 use Rattle.machine.specs.Trace.{Entry, trace, end_of}
-use Rattle.machine.specs.Laws.{times, Always, Waiting, AlwaysWaiting, begun_by, begun_on, begins, EqualTurns}
+use Rattle.machine.specs.Laws.{Always, Waiting, AlwaysWaiting, begun_by, begun_on, begins, EqualTurns}
 use Rattle.machine.proofs.Loads.{turns, TidyCore, TidyState, busy_turns}
 use Rattle.machine.proofs.Moved.{Move, signalled, begun, rescheduled, Happens, refused, asked_idle, configured, moved}
 use Rattle.machine.proofs.Runs.{reached, begins_with}
 use Rattle.machine.proofs.Tidy.{keeps_tidy, tidy_heard}
 use Rattle.machine.proofs.Unmoved.{gate_unmoved}
+use Rattle.machine.specs.Numbers.{times}
 
 begins-cons : (n : ℕ) (e : Entry) (es : List Entry) → begins n (e ∷ es) ≡ begun_on n e.answered + begins n es
 begins-cons n = sum_by-cons (λ (e : Entry). begun_on n e.answered)

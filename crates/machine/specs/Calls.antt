@@ -10,18 +10,14 @@ use Rattle.machine.specs.declared.answers.Progress.TheVariants.{Begun, Empty, Ta
 use Rattle.machine.specs.declared.calls.RawSettings.{RawSettings}
 use Rattle.machine.specs.State.{Grant, Core, Batches, waits, is_open}
 use Rattle.machine.specs.Moves.{arm, disarm, join, charge, offer_cycles, one_numbered, one_bearer_full, one_queue_full, one_delivered, one_discarded}
-
--- a number without its first place in a list
-abbrev pub without : ℕ → List ℕ → List ℕ
-without n [] = []
-without n (m ∷ ms) = cond (m == n) ms (m ∷ without n ms)
+use Rattle.machine.specs.Numbers.{without}
 
 -- a packet that arrives gets the next number and is offered to its bearer
 abbrev pub next_packet : ℕ → ℕ → Core → Packet
 next_packet n t x = record { number = x.counts.numbered; length = n; tag = t }
 
-abbrev pub offered : ℕ → ℕ → ℕ → Core → Core
-offered b n t x = record x { bearers = changed x.bearers b (after_offer (next_packet n t x)); counts = one_numbered x.counts }
+abbrev pub packet_offered : ℕ → ℕ → ℕ → Core → Core
+packet_offered b n t x = record x { bearers = changed x.bearers b (after_offer (next_packet n t x)); counts = one_numbered x.counts }
 
 -- the grant runs on with so many packets left
 abbrev pub left_with : Grant → ℕ → Core → Core
@@ -39,7 +35,7 @@ module _ (s : RawSettings) where
   unfoldable pub arrive : ℕ → ℕ → ℕ → Core → Answer × Core
   arrive b n t x =
       let room : Bool = has_room (bearer_of x.bearers b) in
-      let y : Core = offered b n t x in (
+      let y : Core = packet_offered b n t x in (
         Arrived (record { number = x.counts.numbered; accepted = room }),
         cond room (cond (bearer_of y.bearers b).signal (heard b y) y) (record y { counts = one_bearer_full y.counts }),
       )

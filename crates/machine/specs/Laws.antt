@@ -13,10 +13,11 @@ use Rattle.machine.specs.declared.calls.Call.{Call}
 use Rattle.machine.specs.declared.calls.Call.TheVariants.{Configure, Arrive, Step, Work, Fetch, Finish, Discard, Tell}
 use Rattle.machine.specs.declared.calls.RawSettings.{RawSettings}
 use Rattle.machine.specs.declared.refusals.Refusal.{Refusal}
-use Rattle.machine.specs.State.{Core, State, idle, running, Batches, waits, holds, busy, is_open}
+use Rattle.machine.specs.State.{Core, State, idle, running, Batches, waits, busy, is_open}
 use Rattle.machine.specs.Settings.{grant_bound}
 use Rattle.machine.specs.Trace.{Entry, trace, end_of, Throughout}
 use Rattle.machine.specs.Ledger.{Ledger, Columns, column, column_room, queue_room, progress_in, depths_of, ledger, counts_of}
+use Rattle.machine.specs.Numbers.{holds, times}
 
 -- what a policy keeps: a quota is 1 to M, and M is at most 64
 pub record Bounded (p : Batches) : Type 0 where
@@ -156,11 +157,7 @@ abbrev pub TrueAnswers : Law
 TrueAnswers p bs es =
     (before after : List Entry) (e : Entry) → es ≡ before ++ e ∷ after → Truly (depths_of bs) e.asked e.answered (ledger bs before)
 
--- how often a number stands in a list, and in a list of lists; the first by recursion, since `grind` does not look into `count_by`, which is a fold
-abbrev pub times : ℕ → List ℕ → ℕ
-times n [] = 0
-times n (m ∷ ms) = cond (m == n) 1 0 + times n ms
-
+-- how often a number stands in a list of lists
 abbrev pub times_in_all : ℕ → List (List ℕ) → ℕ
 times_in_all n = sum_by (times n)
 

@@ -9,8 +9,8 @@ use Rattle.machine.specs.declared.answers.Counts.{Counts}
 use Rattle.machine.specs.declared.calls.Call.{Call}
 use Rattle.machine.specs.declared.calls.Call.TheVariants.{Configure, Arrive, Step, Fetch, Finish, Discard}
 use Rattle.machine.specs.declared.refusals.Refusal.{Refusal}
-use Rattle.machine.specs.Calls.{without}
 use Rattle.machine.specs.Trace.{Entry}
+use Rattle.machine.specs.Numbers.{without}
 
 -- the columns of numbers: one for each bearer, and one for each other place
 pub record Columns : Type 0 where

@@ -1,10 +1,12 @@
 pub mod Calls
+pub mod Checks
 pub mod Edges
 pub mod Examples
 pub mod Laws
 pub mod Ledger
 pub mod Machine
 pub mod Moves
+pub mod Numbers
 pub mod Refusals
 pub mod Settings
 pub mod Sharp

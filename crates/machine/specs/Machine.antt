@@ -9,12 +9,14 @@ use Rattle.machine.specs.declared.calls.Call.TheVariants.{Configure, Arrive, Ste
 use Rattle.machine.specs.declared.calls.RawSettings.{RawSettings}
 use Rattle.machine.specs.declared.refusals.Refusal.{Refusal}
 use Rattle.machine.specs.declared.refusals.Refusal.TheVariants.{NoShare, NotShown, BadLength, BadWork, NotConfigured, AlreadyConfigured, PacketWaits, Retired, LimitUsed, OnHold, NoneListed, PastPeriod, NoneQueued, AllOut, NotOut}
-use Rattle.machine.specs.State.{Grant, Core, State, idle, running, Batches, holds}
-use Rattle.machine.specs.Settings.{Check, in_range, first, settings_checks, grant_bound}
+use Rattle.machine.specs.State.{Grant, Core, State, idle, running, Batches}
+use Rattle.machine.specs.Settings.{settings_checks, grant_bound}
 use Rattle.machine.specs.Moves.{set_gate}
 use Rattle.machine.specs.Calls.{arrive, begin, serve, work, fetch, finish, discard, tell}
+use Rattle.machine.specs.Checks.{Check, first_refusal, in_range}
+use Rattle.machine.specs.Numbers.{holds}
 
--- a call is refused by the first check that fails, with all as it was, or else accepted, with what it does
+-- a call is refused by the first_refusal check that fails, with all as it was, or else accepted, with what it does
 abbrev pub unless : {A : Type 0} → Option Refusal → A → Answer × A → Result Answer Refusal × A
 unless (Some r) before done = (Err r, before)
 unless None before done = (Ok done.0, done.1)
@@ -46,7 +48,7 @@ abbrev pub configure_checks : Batches → RawSettings → List Bearer → List C
 configure_checks p s bs = settings_checks s ++ (waiting_checks 0 bs ++ (nat_le (s.limit + grant_bound p bs) s.period, NoShare) ∷ [])
 
 abbrev pub idle_call : Batches → Call → List Bearer → Result Answer Refusal × State
-idle_call p (Configure s) bs = unless (first (configure_checks p s bs)) (idle bs) (Configured, running s (fresh bs))
+idle_call p (Configure s) bs = unless (first_refusal (configure_checks p s bs)) (idle bs) (Configured, running s (fresh bs))
 idle_call p (Finish n) bs = (Err NotOut, idle bs)
 idle_call p (Discard n) bs = (Err NotOut, idle bs)
 idle_call p Tell bs = (Ok (Told (record { counts = no_counts; closed = 0; last = None })), idle bs)
@@ -92,7 +94,7 @@ step_by s p (Some g) x = serve s g x
 -- an accepted call ends by setting the gate
 module _ (s : RawSettings) (x : Core) where
   abbrev pub checked : List Check → Answer × Core → Result Answer Refusal × Core
-  checked cs done = unless (first cs) x (done.0, set_gate s x done.1)
+  checked cs done = unless (first_refusal cs) x (done.0, set_gate s x done.1)
 
   abbrev pub running_call : Batches → Call → Result Answer Refusal × Core
   running_call p (Configure n) = (Err AlreadyConfigured, x)

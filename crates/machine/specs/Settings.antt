@@ -1,23 +1,11 @@
 -- The ranges of the settings, and the grant bound.
-use Rattle.std.specs.Prelude.{ℕ, ◌+◌, ◌*◌, max, Bool, cond, ◌&&◌, List, [], ◌∷◌, Some, None, Option, nat_le, nat_lt}
+use Rattle.std.specs.Prelude.{ℕ, ◌+◌, ◌*◌, max, List, [], ◌∷◌, nat_lt}
 use Rattle.board.specs.Bearers.{Bearer}
 use Rattle.machine.specs.declared.calls.RawSettings.{RawSettings}
 use Rattle.machine.specs.declared.calls.Setting.TheVariants.{Period, Limit, Size, High, Low, Hold}
-use Rattle.machine.specs.declared.refusals.Refusal.{Refusal}
 use Rattle.machine.specs.declared.refusals.Refusal.TheVariants.{BadSetting}
 use Rattle.machine.specs.State.{Batches}
-
-abbrev pub in_range : ℕ → ℕ → ℕ → Bool
-in_range low high n = nat_le low n && nat_le n high
-
--- a check: what has to hold, and the refusal where it does not
-abbrev pub Check : Type 0
-Check = Bool × Refusal
-
--- the refusal of the first check that fails, if any does
-abbrev pub first : List Check → Option Refusal
-first [] = None
-first (c ∷ cs) = cond c.0 (first cs) (Some c.1)
+use Rattle.machine.specs.Checks.{Check, in_range}
 
 -- the settings in the order P, N, S, H, L, T
 abbrev pub settings_checks : RawSettings → List Check

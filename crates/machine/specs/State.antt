@@ -1,11 +1,11 @@
 -- What a receiver holds.
 use Rattle.std.specs.Prelude.{ℕ, Bool, false, ◌&&◌, ◌||◌, List, Some, None, Option, ◌==◌, nat_lt}
-use Rattle.std.specs.List.{list_any}
 use Rattle.board.specs.declared.packets.Packet.{Packet}
 use Rattle.board.specs.Bearers.{Bearer, bearer_of}
 use Rattle.machine.specs.declared.answers.Counts.{Counts}
 use Rattle.machine.specs.declared.answers.Period.{Period}
 use Rattle.machine.specs.declared.calls.RawSettings.{RawSettings}
+use Rattle.machine.specs.Numbers.{holds}
 
 -- the open period: cycles elapsed in it, used by bearers, offered to the application; the periods closed, and the last one's record
 pub record Clock : Type 0 where
@@ -44,10 +44,6 @@ pub record Batches : Type 0 where
 -- the packets waiting in a bearer
 abbrev pub waits : List Bearer → ℕ → List Packet
 waits bs b = (bearer_of bs b).waiting
-
--- whether a number is in a list
-abbrev pub holds : ℕ → List ℕ → Bool
-holds n = list_any (λ m. m == n)
 
 -- whether a grant serves a bearer
 abbrev pub serves : Option Grant → ℕ → Bool
