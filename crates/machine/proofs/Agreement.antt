@@ -19,7 +19,7 @@ use Rattle.machine.proofs.Basics.{none_left}
 use Rattle.std.proofs.lemmas.Simd.{map-map}
 
 -- before it is configured, the ledger is empty
-abbrev TallyState : List ℕ → State → Ledger → Type 0
+abbrev pub TallyState : List ℕ → State → Ledger → Type 0
 TallyState depths (idle bs) l = (l ≡ nothing (length bs)) × (depths_of bs ≡ depths)
 TallyState depths (running s x) l = TallyCore depths s x l
 
@@ -60,14 +60,14 @@ module _ (p : Batches) (depths : List ℕ) where
 
 -- the invariant of every list of calls
 module _ (p : Batches) (bs : List Bearer) where
-  abbrev Agreeing : List Entry → State → Type 0
+  abbrev pub Agreeing : List Entry → State → Type 0
   Agreeing es t = TallyState (depths_of bs) t (ledger bs es)
 
-  starts_agreeing : Agreeing [] (idle bs)
+  pub starts_agreeing : Agreeing [] (idle bs)
   unfolding ledger
   starts_agreeing = (refl, refl)
 
-  keeps_agreeing : (es : List Entry) (t u : State) (c : Call) (r : Result Answer Refusal) → Agreeing es t → Happens p t c r u →
+  pub keeps_agreeing : (es : List Entry) (t u : State) (c : Call) (r : Result Answer Refusal) → Agreeing es t → Happens p t c r u →
       Agreeing (es ++ made t c r u ∷ []) u
   keeps_agreeing es t u c r i h =
       subst (TallyState (depths_of bs) u) (sym (ledger_push bs es (made t c r u))) (keeps_tally p (depths_of bs) t u c r (ledger bs es) i h)

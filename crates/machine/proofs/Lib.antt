@@ -1,5 +1,6 @@
 pub mod Agreement
 pub mod Basics
+pub mod Batches
 pub mod Gate
 pub mod Lines
 pub mod Loads
@@ -7,7 +8,6 @@ pub mod Moved
 pub mod Order
 pub mod Periods
 pub mod Places
-pub mod Proved
 pub mod Pushed
 pub mod Runs
 pub mod Share

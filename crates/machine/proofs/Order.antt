@@ -1,7 +1,7 @@
 -- Arrival order: where the answers are true to the ledger, the numbers of one bearer go through its columns in the order of their arrival.
-use Rattle.std.proofs.Common.{◌≡◌, ℕ, ◌+◌, ◌<◌, Bool, cond, eqb, List, [], ◌∷◌, ◌++◌, length, get_or, replicate, set, drop, Some, Ok, Err, Result, sym, refl, ap, ◌∙◌, subst, ⊎_elim, append_assoc, append-nil, arith}
+use Rattle.std.proofs.Common.{◌≡◌, ℕ, ◌+◌, ◌<◌, Bool, cond, eqb, List, [], ◌∷◌, ◌++◌, length, get_or, replicate, set, drop, Some, Ok, Err, Result, sym, refl, ap, ◌∙◌, subst, ⊎_elim, append_assoc, append-nil, arith, true, suc}
 use Rattle.std.specs.List.{slice_get}
-use Rattle.std.proofs.lemmas.Bool.{cond_both, eq-eqb, ne_eqb, cases_lt, eqb-true}
+use Rattle.std.proofs.lemmas.Bool.{cond_both, eq-eqb, ne_eqb, cases_lt, eqb-true, cases_eq}
 use Rattle.std.proofs.lemmas.List.{get_or_past, get_or-replicate, length-replicate}
 use Rattle.std.proofs.lemmas.List.Elements.{filter-append}
 use Rattle.std.proofs.lemmas.Grind.{flat_map-append}
@@ -20,6 +20,7 @@ use Rattle.machine.proofs.Lines.{Line, mine, line_to, line_push, line_middle, li
 use Rattle.machine.proofs.Pushed.{told_keeps}
 use Rattle.machine.proofs.Agreement.{true_answers}
 use Rattle.machine.proofs.Basics.{at_set}
+use Rattle.machine.specs.Numbers.{holds}
 
 -- what holds of each column holds after one of them was set
 each_column : (P : ℕ → List ℕ → Type 0) (cs : List (List ℕ)) (b : ℕ) (c : List ℕ) → b < length cs → P b c →
@@ -140,7 +141,18 @@ in_order p bs es t =
     (λ fs e l s h. simp (flat_map-append, append-nil) (in_order_told (fetches fs) (λ b. arrivals b fs) l s (depths_of bs) e.asked e.answered h))
     p es t es [] (sym (append-nil es))
 
+-- where a number stands that a list holds
+place_of : (n : ℕ) (ns : List ℕ) → holds n ns ≡ true → (k : ℕ) × (slice_get ns k ≡ Some n)
+place_of n [] h = cc h
+place_of n (m ∷ ns) h =
+    ⊎_elim
+    (λ (e : m ≡ n). (0, ap Some e))
+    (λ (other : m ≡ n → ⊥). let k = place_of n ns (grind (arith, h, other)) in (suc k.0, k.1))
+    (cases_eq m n)
+
 pub arrival_order : Always ArrivalOrder
-arrival_order p q bs cs =
+arrival_order p q bs cs b m n arrived_m arrived_n fetched =
     let s = in_order p bs (trace p (idle bs) cs) (true_answers p q bs cs) in
-    order_places s.0 (s.1 s.0 (λ _ _. refl))
+    let k = place_of m (arrivals b (trace p (idle bs) cs)) arrived_m in
+    let l = place_of n (arrivals b (trace p (idle bs) cs)) arrived_n in
+    (k.0, l.0, order_places s.0 (s.1 s.0 (λ _ _. refl)) b fetched.0 fetched.1 k.0 l.0 m n fetched.2 fetched.3 k.1 fetched.4 l.1, k.1, l.1)

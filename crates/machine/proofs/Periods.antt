@@ -1,27 +1,21 @@
 -- The accounts of the periods: what each offered the application, and what bearers may still use in the open one.
-use Rattle.std.proofs.Common.{◌≡◌, ℕ, ◌+◌, ◌<◌, ◌≤◌, cond, eqb, arith, ◌-◌, ◌∙◌, refl, sym, ap, Some, None}
-use Rattle.std.proofs.lemmas.Bool.{cond_both, leb-true, eqb-true, eqb-false}
+use Rattle.std.proofs.Common.{◌≡◌, ℕ, ◌+◌, ◌<◌, ◌≤◌, cond, eqb, arith, ◌∙◌, refl, sym, Some, None, Option}
+use Rattle.std.proofs.lemmas.Bool.{cond_both, leb-true}
 use Rattle.machine.specs.declared.calls.RawSettings.{RawSettings}
 use Rattle.machine.specs.State.{Clock}
 use Rattle.machine.specs.Moves.{is_over, next_period}
-use Rattle.machine.specs.Laws.{period_record, last_record}
-use Rattle.machine.proofs.Basics.{tested}
+use Rattle.machine.specs.Laws.{LastRecorded}
+use Rattle.machine.specs.declared.answers.Period.{Period}
 
 -- the accounts h are the accounts f with o cycles more offered in the open period
 pub record Booked (f : ℕ → ℕ) (k : Clock) (o : ℕ) (h : ℕ → ℕ) : Type 0 where
   pub each : (j : ℕ) → h j ≡ f j + cond (eqb k.closed j) o 0
 
--- what the open period is offered changes no record; and a period that closes is recorded
-same_record : (period : ℕ) (f h : ℕ → ℕ) (n : ℕ) → ((n ≡ 0 → ⊥) → h (n - 1) ≡ f (n - 1)) → last_record period f n ≡ last_record period h n
-same_record period f h n e =
-    tested (λ t. cond t None (Some (period_record period (f (n - 1)))) ≡ cond t None (Some (period_record period (h (n - 1))))) (eqb n 0)
-    (λ _. refl) (λ z. ap (λ o. Some (period_record period o)) (sym (e (eqb-false n 0 z))))
-
-next_record : (period : ℕ) (f : ℕ → ℕ) (n o : ℕ) → o ≡ f n → Some (period_record period o) ≡ last_record period f (n + 1)
-next_record period f n o e =
-    tested (λ t. Some (period_record period o) ≡ cond t None (Some (period_record period (f (n + 1 - 1))))) (eqb (n + 1) 0)
-    (λ z. absurd (omega (arith, eqb-true (n + 1) 0 z)))
-    (λ _. ap (λ o. Some (period_record period o)) (e ∙ ap f (omega arith)))
+-- what the open period is offered changes no record
+same_record : (period : ℕ) (f h : ℕ → ℕ) (closed : ℕ) (last : Option Period) → ((j : ℕ) → j < closed → h j ≡ f j) →
+    LastRecorded period f closed last → LastRecorded period h closed last
+same_record period f h closed None same r = r
+same_record period f h closed (Some d) same r = (r.0, r.1, r.2 ∙ sym (same r.0 (omega (arith, r.1))), r.3)
 
 module _ (s : RawSettings) where
   -- the clock, with the period closed if it is over
@@ -33,7 +27,7 @@ module _ (s : RawSettings) where
     pub record Accounts (f : ℕ → ℕ) (k : Clock) (due : ℕ) : Type 0 where
       pub spent : k.elapsed ≡ k.used + f k.closed
       pub offered : k.offered ≡ f k.closed
-      pub recorded : k.last ≡ last_record s.period f k.closed
+      pub recorded : LastRecorded s.period f k.closed k.last
       pub fits : f k.closed ≤ s.period
       pub bound : k.used + due + 1 ≤ most
       pub before : (j : ℕ) → j < k.closed → s.period + 1 ≤ f j + most
@@ -45,7 +39,7 @@ module _ (s : RawSettings) where
     runs_on {f = f} {h = h} {k = k} {l = l} a b c d r e u w = record {
       spent = grind (arith, a.spent, b.each l.closed);
       offered = grind (arith, a.offered, b.each l.closed);
-      recorded = rw c (r ∙ a.recorded ∙ same_record s.period f h k.closed (λ z. grind (arith, b.each (k.closed - 1))));
+      recorded = rw (c, r) (same_record s.period f h k.closed k.last (λ j i. grind (arith, b.each j)) a.recorded);
       fits = grind (arith, b.each l.closed);
       bound = u;
       before = λ j i. grind (arith, a.before j, b.each j);
@@ -60,7 +54,7 @@ module _ (s : RawSettings) where
         closes i = record {
           spent = omega (arith, a.spent, a.fits, a.later (k.closed + 1));
           offered = sym (a.later (k.closed + 1) (omega arith));
-          recorded = next_record s.period f k.closed k.offered a.offered;
+          recorded = (k.closed, refl, a.offered, omega (arith, a.offered, a.fits));
           fits = omega (arith, a.later (k.closed + 1));
           bound = omega (arith, a.spent, a.fits, a.bound);
           before = λ j l. grind (arith, a.before j, a.spent, a.bound);

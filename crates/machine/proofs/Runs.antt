@@ -15,16 +15,16 @@ made t c r u = record { asked = c; answered = r; before = t; after = u }
 
 module _ (p : Batches) where
   -- a trace begins with what its first call comes to, and goes on from there
-  pub record Begins (t : State) (e : Entry) (rest : List Entry) : Type 0 where
+  pub record Starts (t : State) (e : Entry) (rest : List Entry) : Type 0 where
     pub from : e.before ≡ t
     pub comes : Happens p t e.asked e.answered e.after
     pub calls : List Call
     pub goes_on : trace p e.after calls ≡ rest
 
-  pub begins_with : (cs : List Call) (t : State) (e : Entry) (rest : List Entry) → trace p t cs ≡ e ∷ rest → Begins t e rest
-  begins_with [] t e rest h = cc
-  begins_with (c ∷ cs) t e rest h =
-      subst (λ (d : Entry). Begins t d rest) (cc)
+  pub starts_with : (cs : List Call) (t : State) (e : Entry) (rest : List Entry) → trace p t cs ≡ e ∷ rest → Starts t e rest
+  starts_with [] t e rest h = cc
+  starts_with (c ∷ cs) t e rest h =
+      subst (λ (d : Entry). Starts t d rest) (cc)
       (record { from = refl; comes = happens p c t; calls = cs; goes_on = cc })
 
   module _ (I : List Entry → State → Type 0)
@@ -34,7 +34,7 @@ module _ (p : Batches) where
         I (es ++ before) (end_of t before) × (ds : List Call) × (trace p (end_of t before) ds ≡ after)
     reached_from [] after es cs t i h = (subst (λ (l : List Entry). I l t) (sym (append-nil es)) i, cs, h)
     reached_from (e ∷ before) after es cs t i h =
-        let b = begins_with cs t e (before ++ after) h in
+        let b = starts_with cs t e (before ++ after) h in
         let j : I (es ++ e ∷ []) e.after = subst (λ (v : State). I (es ++ made v e.asked e.answered e.after ∷ []) e.after) (sym b.from) (keep es t e.after e.asked e.answered i b.comes) in
         let k = reached_from before after (es ++ e ∷ []) b.calls e.after j b.goes_on in
         (subst (λ (l : List Entry). I l (end_of e.after before)) (append_assoc es (e ∷ []) before) k.0, k.1, k.2)
@@ -58,7 +58,7 @@ module _ (p : Batches) where
       pub each_call : (before after : List Entry) (e : Entry) → trace p t cs ≡ before ++ e ∷ after → Came before e
       each_call before after e h =
           let r = reached before (e ∷ after) h in
-          let b = begins_with r.1 (end_of t before) e after r.2 in
+          let b = starts_with r.1 (end_of t before) e after r.2 in
           record {
             held = subst (λ (v : State). I before v) (sym b.from) r.0;
             comes = subst (λ (v : State). Happens p v e.asked e.answered e.after) (sym b.from) b.comes;

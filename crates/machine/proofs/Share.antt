@@ -1,5 +1,5 @@
 -- Every closed period offered the application its share: bearers use less than the limit and the grant bound together.
-use Rattle.std.proofs.Common.{◌≡◌, ℕ, zero, suc, ◌+◌, ◌-◌, ◌*◌, ◌<◌, ◌≤◌, true, false, cond, ◌||◌, eqb, List, [], ◌∷◌, ◌++◌, length, get_or, Some, None, Ok, Option, Result, refl, ap, arith, sym}
+use Rattle.std.proofs.Common.{◌≡◌, ℕ, zero, suc, ◌+◌, ◌-◌, ◌*◌, ◌<◌, ◌≤◌, true, false, cond, ◌||◌, eqb, List, [], ◌∷◌, ◌++◌, length, get_or, Some, None, Ok, Option, Result, refl, ap, arith, sym, subst}
 use Rattle.std.proofs.lemmas.Bool.{cond_both}
 use Rattle.std.specs.List.{AllByRecursion}
 use Rattle.std.proofs.lemmas.List.Sums.{sum_by_push}
@@ -16,14 +16,16 @@ use Rattle.machine.specs.Moves.{set_gate}
 use Rattle.machine.specs.Calls.{next_packet}
 use Rattle.machine.specs.Machine.{fresh}
 use Rattle.machine.specs.Trace.{Entry, trace, end_of}
-use Rattle.machine.specs.Laws.{Bounded, Always, Share, cycles_of, offered_by, offered_in, closed_in, TrueRecords}
+use Rattle.machine.specs.Laws.{Bounded, Always, Share, cycles_of, offered_by, offered_in, closed_in, TrueRecords, TruePeriods}
 use Rattle.machine.proofs.Basics.{on_changed, at_mapped}
 use Rattle.machine.proofs.Loads.{TidyCore, TidyState}
 use Rattle.machine.proofs.Tidy.{keeps_tidy}
-use Rattle.machine.proofs.Moved.{behind, Move, stored, signalled, begun, emptied, taken, rescheduled, completed, worked, Happens, refused, asked_idle, configured, moved}
-use Rattle.machine.proofs.Runs.{made, at_end, if_running}
+use Rattle.machine.proofs.Moved.{behind, Move, stored, signalled, begun, emptied, taken, rescheduled, completed, worked, Happens, refused, asked_idle, configured, moved, told}
+use Rattle.machine.proofs.Runs.{made, at_end, if_running, Came, each_call}
 use Rattle.machine.proofs.Unmoved.{Unmoved, gate_unmoved, unmoved_bearer, armed_same}
 use Rattle.machine.proofs.Periods.{Booked, settled, Accounts, runs_on, settles}
+use Rattle.machine.specs.declared.answers.Report.{Report}
+use Rattle.machine.specs.declared.answers.Answer.TheVariants.{Told}
 
 -- no length costs more than the last class, and no bearer more than the highest cost
 at_most : (m n : ℕ) (ns : List ℕ) → AllByRecursion (λ k. k ≤ m) ns → get_or ns n m ≤ m
@@ -73,6 +75,7 @@ module _ (p : Batches) (start : List Bearer) where
     accounts : Accounts s (s.limit + grant_bound p start) f k (due g)
     few : due g ≤ p.greatest * price
     cheap : Cheap bs
+    some : s.limit + grant_bound p start ≤ s.period
 
   abbrev FundedCore : RawSettings → (ℕ → ℕ) → Core → Type 0
   FundedCore s f x = Funded s f x.bearers x.clock x.grant
@@ -86,6 +89,7 @@ module _ (p : Batches) (start : List Bearer) where
       accounts = runs_on s _ i.accounts n refl (omega arith) refl (omega arith) (omega (arith, i.accounts.bound)) (omega (arith, i.accounts.fits));
       few = omega (arith, i.few);
       cheap = cheap;
+      some = i.some;
     }
 
     -- bearers use c cycles
@@ -95,6 +99,7 @@ module _ (p : Batches) (start : List Bearer) where
       accounts = settles s _ _ (runs_on s _ i.accounts n refl (omega arith) refl (omega arith) less (omega (arith, i.accounts.fits)));
       few = few;
       cheap = cheap;
+      some = i.some;
     }
 
   module _ (bounded : Bounded p) (s : RawSettings) (f h : ℕ → ℕ) (x : Core) (t : TidyCore (is_open s x) x) (i : FundedCore s f x) where
@@ -133,11 +138,13 @@ module _ (p : Batches) (start : List Bearer) where
       accounts = settles s _ _ (runs_on s _ i.accounts n refl (omega arith) refl (omega arith) i.accounts.bound (omega (arith, i.accounts.spent)));
       few = i.few;
       cheap = i.cheap;
+      some = i.some;
     }
     move_funded _ _ _ _ n = kept x i n x.bearers x.grant i.cheap (omega arith)
 
-  fresh_funded : (s : RawSettings) (f : ℕ → ℕ) (bs : List Bearer) → bs ≡ start → ((j : ℕ) → f j ≡ 0) → FundedCore s f (fresh bs)
-  fresh_funded s f bs e none = record {
+  fresh_funded : (s : RawSettings) (f : ℕ → ℕ) (bs : List Bearer) → bs ≡ start → s.limit + grant_bound p bs ≤ s.period → ((j : ℕ) → f j ≡ 0) →
+      FundedCore s f (fresh bs)
+  fresh_funded s f bs e some none = record {
     accounts = record {
       spent = omega (arith, none 0);
       offered = sym (none 0);
@@ -149,6 +156,7 @@ module _ (p : Batches) (start : List Bearer) where
     };
     few = omega arith;
     cheap = λ b. at_mapped (λ v. v.cost ≤ highest_cost start) _ bs b (omega arith) (omega (arith, cost_highest bs b, ap highest_cost e));
+    some = subst (λ ks. s.limit + grant_bound p ks ≤ s.period) e some;
   }
 
   gate_funded : (s : RawSettings) (f : ℕ → ℕ) (x y : Core) → FundedCore s f y → FundedCore s f (set_gate s x y)
@@ -157,6 +165,7 @@ module _ (p : Batches) (start : List Bearer) where
       record {
         accounts = rw u.clock (rw u.grant i.accounts);
         few = rw u.grant i.few;
+        some = i.some;
         cheap = λ b. omega (arith, i.cheap b, unmoved_bearer (λ v. v.cost) (λ _. refl) y (set_gate s x y) u b);
       }
 
@@ -169,20 +178,47 @@ module _ (p : Batches) (start : List Bearer) where
       TidyState t → Fair es t → Happens p t c r u → Fair (es ++ made t c r u ∷ []) u
   keeps_fair bounded es _ _ _ _ t i (refused {t = idle bs}) = (i.0, still_none es _ refl i.1)
   keeps_fair bounded es _ _ _ _ t i asked_idle = (i.0, still_none es _ refl i.1)
-  keeps_fair bounded es _ _ _ _ t i (configured {bs = bs} {s = s} _ _ _) = fresh_funded s _ bs i.0 (still_none es _ refl i.1)
+  keeps_fair bounded es _ _ _ _ t i (configured {bs = bs} {s = s} _ _ some) = fresh_funded s _ bs i.0 some (still_none es _ refl i.1)
   keeps_fair bounded es _ _ c r t i (refused {t = running s x}) =
       kept x i (booked es s x c r (running s x)) x.bearers x.grant i.cheap (omega arith)
   keeps_fair bounded es _ _ _ _ t i (moved {s = s} {x = x} {y = y} {c = c} {a = a} m) =
       gate_funded s _ x y (move_funded bounded s _ _ x t i c a y m (booked es s x c (Ok a) (running s (set_gate s x y))))
 
--- at the end of every list of calls
-always_fair : (p : Batches) → Bounded p → (bs : List Bearer) (cs : List Call) → Fair p bs (trace p (idle bs) cs) (end_of (idle bs) (trace p (idle bs) cs))
-always_fair p bounded bs cs = (at_end p (λ es t. TidyState t × Fair p bs es t)
-    (λ es t u c r i h. (keeps_tidy p t u c r i.0 h, keeps_fair p bs bounded es t u c r i.0 i.1 h))
-    (idle bs) (tt, (refl, λ _. refl)) cs).1
+-- over every list of calls, with all tidy
+module _ (p : Batches) (bounded : Bounded p) (bs : List Bearer) (cs : List Call) where
+  abbrev TidyFair : List Entry → State → Type 0
+  TidyFair es t = TidyState t × Fair p bs es t
+
+  keeps_both : (es : List Entry) (t u : State) (c : Call) (r : Result Answer Refusal) → TidyFair es t → Happens p t c r u → TidyFair (es ++ made t c r u ∷ []) u
+  keeps_both es t u c r i h = (keeps_tidy p t u c r i.0 h, keeps_fair p bs bounded es t u c r i.0 i.1 h)
+
+  starts_fair : TidyFair [] (idle bs)
+  starts_fair = (tt, (refl, λ _. refl))
+
+  fair_end : TidyFair (trace p (idle bs) cs) (end_of (idle bs) (trace p (idle bs) cs))
+  fair_end = at_end p TidyFair keeps_both (idle bs) starts_fair cs
+
+  fair_before : (before after : List Entry) (e : Entry) → trace p (idle bs) cs ≡ before ++ e ∷ after → Came p TidyFair keeps_both (idle bs) starts_fair cs before e
+  fair_before = each_call p TidyFair keeps_both (idle bs) starts_fair cs
 
 pub share : Always Share
-share p bounded bs cs = if_running (Fair p bs (trace p (idle bs) cs)) (λ s x i. i.accounts.before) _ (always_fair p bounded bs cs)
+share p bounded bs cs = if_running (Fair p bs (trace p (idle bs) cs)) (λ s x i. record { some = i.some; each = i.accounts.before }) _ (fair_end p bounded bs cs).1
+
+-- what tell answers of periods
+told_periods : (p : Batches) (bs : List Bearer) (es : List Entry) (t u : State) (c : Call) (a : Result Answer Refusal) (r : Report) →
+    Fair p bs es t → Happens p t c a u → a ≡ Ok (Told r) → TruePeriods es t r
+told_periods p bs es _ _ _ _ r i refused e = cc e
+told_periods p bs es _ _ _ _ r i asked_idle e = (cc e, cc e)
+told_periods p bs es _ _ _ _ r i (configured _ _ _) e = cc e
+told_periods p bs es _ _ _ _ r i (moved {s = s} {x = x} m) e = by m (cc e)
+  where
+    by : {c : Call} {a : Answer} {y : Core} → Move s p x c a y → a ≡ Told r → TruePeriods es (running s x) r
+    by told e =
+        let same : r ≡ record { counts = x.counts; closed = x.clock.closed; last = x.clock.last } = cc e in
+        rw same (refl, i.accounts.recorded)
+    by _ e = cc e
 
 pub true_records : Always TrueRecords
-true_records p bounded bs cs = if_running (Fair p bs (trace p (idle bs) cs)) (λ s x i. i.accounts.recorded) _ (always_fair p bounded bs cs)
+true_records p bounded bs cs before after e r h a =
+    let k = fair_before p bounded bs cs before after e h in
+    told_periods p bs before e.before e.after e.asked e.answered r k.held.1 k.comes a

@@ -12,7 +12,7 @@ use Rattle.machine.specs.Settings.{settings_checks}
 use Rattle.machine.specs.Calls.{next_packet}
 use Rattle.machine.specs.Machine.{fresh, waiting_checks}
 use Rattle.machine.specs.Trace.{Throughout}
-use Rattle.machine.specs.Laws.{Heard, Always, OnceRunning, NeverDeaf, Quiet}
+use Rattle.machine.specs.Laws.{NotDeaf, Always, OnceRunning, NeverDeaf, Quiet, OneWay}
 use Rattle.machine.proofs.Basics.{at_changed, on_changed, at_mapped, none_left, times-append}
 use Rattle.machine.proofs.Loads.{turns, load, Calm, calm_armed, calm_disarmed, Tidy, TidyCore, TidyState, free_turns}
 use Rattle.machine.proofs.Gate.{gate_tidy}
@@ -125,8 +125,8 @@ keeps_tidy p _ _ _ _ i asked_idle = tt
 keeps_tidy p _ _ _ _ i (configured {bs = bs} {s = s} ranges empty share) = fresh_tidy s bs ranges empty
 keeps_tidy p _ _ _ _ i (moved {s = s} {x = x} {y = y} {c = c} {a = a} m) = gate_tidy s x y (move_tidy s p x i c a y m)
 
-pub tidy_heard : (s : RawSettings) (x : Core) → TidyCore (is_open s x) x → Heard s x
-tidy_heard s x t = record {
+pub tidy_not_deaf : (s : RawSettings) (x : Core) → TidyCore (is_open s x) x → NotDeaf s x
+tidy_not_deaf s x t = record {
   armed_empty = λ b. (t.calm b).empty;
   waiting_busy = λ o b w. true_from_ne_false (busy x b) (λ free. w (unheard o b free));
 }
@@ -145,7 +145,10 @@ always_tidy f p _ bs cs before after e = if_running TidyState f _
     (throughout p (λ _ t. TidyState t) (λ _ t u c r i h. keeps_tidy p t u c r i h) (idle bs) tt cs before after e)
 
 pub never_deaf : Always NeverDeaf
-never_deaf = always_tidy tidy_heard
+never_deaf = always_tidy tidy_not_deaf
 
 pub quiet : Always Quiet
 quiet = always_tidy (λ s x t b. (t.calm b).quiet)
+
+pub one_way : Always OneWay
+one_way = always_tidy (λ s x t. record { once = t.once; open_some = λ o b i. omega (arith, t.once b, t.ready o b i); shut_unarmed = t.shut })

@@ -1,6 +1,5 @@
 -- Equal turns: with packets waiting in c, each call pays for a grant begun on b by one begun on c, or by c's coming to stand before b in the poll list.
 use Rattle.std.proofs.Common.{◌≡◌, ℕ, ◌+◌, ◌≤◌, true, cond, ◌≢◌, ◌&&◌, eqb, ltb, List, [], ◌∷◌, ◌++◌, None, Result, ap, arith}
-use Rattle.std.proofs.lemmas.List.Sums.{sum_by-cons}
 use Rattle.machine.specs.declared.answers.Answer.{Answer}
 use Rattle.machine.specs.declared.calls.Call.{Call}
 use Rattle.machine.specs.declared.calls.RawSettings.{RawSettings}
@@ -11,13 +10,11 @@ use Rattle.machine.specs.Trace.{Entry, trace, end_of}
 use Rattle.machine.specs.Laws.{Always, Waiting, AlwaysWaiting, begun_by, begun_on, begins, EqualTurns}
 use Rattle.machine.proofs.Loads.{turns, TidyCore, TidyState, busy_turns}
 use Rattle.machine.proofs.Moved.{Move, signalled, begun, rescheduled, Happens, refused, asked_idle, configured, moved}
-use Rattle.machine.proofs.Runs.{reached, begins_with}
-use Rattle.machine.proofs.Tidy.{keeps_tidy, tidy_heard}
+use Rattle.machine.proofs.Runs.{reached, starts_with}
+use Rattle.machine.proofs.Tidy.{keeps_tidy, tidy_not_deaf}
 use Rattle.machine.proofs.Unmoved.{gate_unmoved}
 use Rattle.machine.specs.Numbers.{times}
-
-begins-cons : (n : ℕ) (e : Entry) (es : List Entry) → begins n (e ∷ es) ≡ begun_on n e.answered + begins n es
-begins-cons n = sum_by-cons (λ (e : Entry). begun_on n e.answered)
+use Rattle.machine.proofs.Batches.{begins-cons}
 
 module _ (c b : ℕ) where
   -- 0 where c stands before any b, else 1
@@ -57,7 +54,7 @@ module _ (c b : ℕ) where
         begun_by b (progress_in a) + slack y.listed ≤ begun_by c (progress_in a) + slack x.listed
     move_pays s x _ _ _ t w (begun {b = n} {rest = ns} e i u h) =
         let o : (ltb x.clock.used s.limit && eqb x.hold 0) ≡ true = grind arith in
-        let l : 1 ≤ turns x.listed x.grant c = busy_turns x c ((tidy_heard s x t).waiting_busy o c w) in
+        let l : 1 ≤ turns x.listed x.grant c = busy_turns x c ((tidy_not_deaf s x t).waiting_busy o c w) in
         let m : turns x.listed x.grant b ≤ 1 = omega (arith, t.once b) in
         rw i (first_leaves d n ns (rw (e, i) at l) (rw (e, i) at m))
     move_pays s x _ _ _ t w (signalled {b = n} l r h) = omega (arith, slack-append x.listed (n ∷ []))
@@ -77,7 +74,7 @@ module _ (c b : ℕ) where
         begins b es ≤ begins c es + may_begin t
     stretch_pays [] after cs t i w ws h = omega arith
     stretch_pays (e ∷ es) after cs t i w ws h =
-        let f = begins_with p cs t e (es ++ after) h in
+        let f = starts_with p cs t e (es ++ after) h in
         let rest = stretch_pays es after f.calls e.after (keeps_tidy p t e.after e.asked e.answered i f.comes) ws.0 ws.1 f.goes_on in
         omega (arith, rest, call_pays t e.after e.asked e.answered i w f.comes, begins-cons b e es, begins-cons c e es)
 

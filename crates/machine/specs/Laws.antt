@@ -1,10 +1,10 @@
--- Laws of every list of calls, made on a receiver just put up. Those are proved that the contract of `laws` names. Each law speaks of a policy, of the bearers that the board showed then, and of a trace.
-use Rattle.std.specs.Prelude.{◌≡◌, ℕ, ◌+◌, ◌-◌, ◌<◌, ◌≤◌, Bool, true, false, cond, ◌≢◌, List, [], ◌∷◌, ◌++◌, map, length, Some, None, Ok, Err, Option, Result, ◌==◌, nat_lt}
+-- Laws of every list of calls, made on a receiver just put up. Each speaks of a policy, of the bearers that the board showed then, and of a trace.
+use Rattle.std.specs.Prelude.{◌≡◌, ℕ, ◌+◌, ◌<◌, ◌≤◌, Bool, true, false, cond, ◌≢◌, List, [], ◌∷◌, ◌++◌, map, length, Some, None, Ok, Err, Option, Result, ◌==◌, nat_lt}
 use Rattle.std.specs.List.{slice_get, flat_map, sum_by}
 use Rattle.board.specs.declared.packets.Packet.{Packet}
 use Rattle.board.specs.Bearers.{Bearer, bearer_of}
 use Rattle.machine.specs.declared.answers.Answer.{Answer}
-use Rattle.machine.specs.declared.answers.Answer.TheVariants.{Configured, Arrived, Worked, Fetched, Finished, Discarded, Told}
+use Rattle.machine.specs.declared.answers.Answer.TheVariants.{Configured, Arrived, Worked, Fetched, Finished, Discarded, Told, Stepped}
 use Rattle.machine.specs.declared.answers.Period.{Period}
 use Rattle.machine.specs.declared.answers.Progress.{Progress}
 use Rattle.machine.specs.declared.answers.Progress.TheVariants.{Begun, Taken}
@@ -13,7 +13,7 @@ use Rattle.machine.specs.declared.calls.Call.{Call}
 use Rattle.machine.specs.declared.calls.Call.TheVariants.{Configure, Arrive, Step, Work, Fetch, Finish, Discard, Tell}
 use Rattle.machine.specs.declared.calls.RawSettings.{RawSettings}
 use Rattle.machine.specs.declared.refusals.Refusal.{Refusal}
-use Rattle.machine.specs.State.{Core, State, idle, running, Batches, waits, busy, is_open}
+use Rattle.machine.specs.State.{Core, State, idle, running, Batches, waits, busy, is_open, serves}
 use Rattle.machine.specs.Settings.{grant_bound}
 use Rattle.machine.specs.Trace.{Entry, trace, end_of, Throughout}
 use Rattle.machine.specs.Ledger.{Ledger, Columns, column, column_room, queue_room, progress_in, depths_of, ledger, counts_of}
@@ -28,7 +28,7 @@ pub record Bounded (p : Batches) : Type 0 where
 abbrev pub Law : Type 1
 Law = Batches → List Bearer → List Entry → Type 0
 
--- a law holds of every policy, of all bearers that a board may show, in any state, and of every list of calls
+-- a law holds of every policy that keeps its bounds, of any list of bearers, in any state, and of every list of calls
 abbrev pub Always : Law → Type 0
 Always law = (p : Batches) → Bounded p → (bs : List Bearer) (cs : List Call) → law p bs (trace p (idle bs) cs)
 
@@ -37,22 +37,10 @@ abbrev pub OnceRunning : State → (RawSettings → Core → Type 0) → Type 0
 OnceRunning (idle bs) P = Unit {0}
 OnceRunning (running s x) P = P s x
 
--- A refused call changes nothing.
+-- REFUSALS LEAVE ALL AS IT WAS. A refused call changes nothing.
 abbrev pub RefusalsLeave : Law
 RefusalsLeave p bs es =
     (before after : List Entry) (e : Entry) (r : Refusal) → es ≡ before ++ e ∷ after → e.answered ≡ Err r → e.after ≡ e.before
-
--- NEVER DEAF. Once configured, after every call, no packet waits in an armed bearer; and with the gate open, a bearer with packets is listed or served.
-pub record Heard (s : RawSettings) (x : Core) : Type 0 where
-  pub armed_empty : (b : ℕ) → (bearer_of x.bearers b).armed ≡ true → waits x.bearers b ≡ []
-  pub waiting_busy : is_open s x ≡ true → (b : ℕ) → waits x.bearers b ≢ [] → busy x b ≡ true
-
-abbrev pub NeverDeaf : Law
-NeverDeaf p bs es = Throughout (idle bs) es (λ _ t. OnceRunning t Heard)
-
--- QUIET BETWEEN CALLS. Once configured, after every call every signal is down.
-abbrev pub Quiet : Law
-Quiet p bs es = Throughout (idle bs) es (λ _ t. OnceRunning t (λ s x. (b : ℕ) → (bearer_of x.bearers b).signal ≡ false))
 
 -- the periods closed
 abbrev pub closed_in : State → ℕ
@@ -72,52 +60,28 @@ offered_by c (Ok a) = cycles_of c
 abbrev pub offered_in : ℕ → List Entry → ℕ
 offered_in k = sum_by (λ (e : Entry). cond (closed_in e.before == k) (offered_by e.asked e.answered) 0)
 
--- THE APPLICATION'S SHARE. Every closed period offered the application at least P - N - B + 1 cycles.
+-- THE APPLICATION'S SHARE. N and B together are at most P, and every closed period offered the application at least P - N - B + 1 cycles.
+pub record Shared (p : Batches) (bs : List Bearer) (es : List Entry) (s : RawSettings) (x : Core) : Type 0 where
+  pub some : s.limit + grant_bound p bs ≤ s.period
+  pub each : (k : ℕ) → k < x.clock.closed → s.period + 1 ≤ offered_in k es + (s.limit + grant_bound p bs)
+
 abbrev pub Share : Law
-Share p bs es =
-    OnceRunning (end_of (idle bs) es) (λ s x. (k : ℕ) → k < x.clock.closed → s.period + 1 ≤ offered_in k es + (s.limit + grant_bound p bs))
+Share p bs es = OnceRunning (end_of (idle bs) es) (Shared p bs es)
 
--- the record of a period that offered so many cycles, and that of the last of so many closed periods
-abbrev pub period_record : ℕ → ℕ → Period
-period_record period offered = record { offered = offered; network = period - offered }
+-- the record of the last period closed, if one has: what it offered, and the rest of it
+abbrev pub LastRecorded : ℕ → (ℕ → ℕ) → ℕ → Option Period → Type 0
+LastRecorded period offered closed None = closed ≡ 0
+LastRecorded period offered closed (Some d) = (k : ℕ) × (closed ≡ k + 1) × (d.offered ≡ offered k) × (d.offered + d.network ≡ period)
 
-abbrev pub last_record : ℕ → (ℕ → ℕ) → ℕ → Option Period
-last_record period offered closed = cond (closed == 0) None (Some (period_record period (offered (closed - 1))))
+-- what a report says of periods, after es and of the receiver then
+abbrev pub TruePeriods : List Entry → State → Report → Type 0
+TruePeriods es (idle bs) r = (r.closed ≡ 0) × (r.last ≡ None)
+TruePeriods es (running s x) r = (r.closed ≡ x.clock.closed) × LastRecorded s.period (λ k. offered_in k es) r.closed r.last
 
--- TRUE RECORDS. The record of the last closed period, which tell reads, has what that period offered the application, and the rest of the period.
+-- TRUE RECORDS. tell answers how many periods have closed, and of the last one what it offered the application and the rest of it.
 abbrev pub TrueRecords : Law
 TrueRecords p bs es =
-    OnceRunning (end_of (idle bs) es) (λ s x. x.clock.last ≡ last_record s.period (λ k. offered_in k es) x.clock.closed)
-
--- packets wait in a bearer
-abbrev pub Waiting : ℕ → State → Type 0
-Waiting b (idle bs) = waits bs b ≢ []
-Waiting b (running s x) = waits x.bearers b ≢ []
-
-abbrev pub AlwaysWaiting : ℕ → List Entry → Type 0
-AlwaysWaiting b [] = Unit {0}
-AlwaysWaiting b (e ∷ es) = Waiting b e.after × AlwaysWaiting b es
-
--- the grants begun on a bearer
-abbrev pub begun_by : ℕ → Option Progress → ℕ
-begun_by b (Some (Begun c q)) = cond (c == b) 1 0
-begun_by b _ = 0
-
-abbrev pub begun_on : ℕ → Result Answer Refusal → ℕ
-begun_on b (Err r) = 0
-begun_on b (Ok a) = begun_by b (progress_in a)
-
-abbrev pub begins : ℕ → List Entry → ℕ
-begins b = sum_by (λ (e : Entry). begun_on b e.answered)
-
--- EQUAL TURNS. Wherever the trace is cut into before, stretch and after, and a bearer has packets at the stretch's start and after each of its calls, no other
--- bearer begins more than one grant more in the stretch. So of two such bearers each begins at most one more than the other.
-abbrev pub EqualTurns : Law
-EqualTurns p bs es =
-    (before stretch after : List Entry) → es ≡ before ++ (stretch ++ after) →
-    (b c : ℕ) → b ≢ c →
-    Waiting c (end_of (idle bs) before) → AlwaysWaiting c stretch →
-    begins b stretch ≤ begins c stretch + 1
+    (before after : List Entry) (e : Entry) (r : Report) → es ≡ before ++ e ∷ after → e.answered ≡ Ok (Told r) → TruePeriods before e.before r
 
 -- LEDGER AGREES. Once configured, after every call, the receiver holds what the ledger says.
 abbrev pub numbers : List Packet → List ℕ
@@ -196,10 +160,89 @@ fetches = flat_map (λ (e : Entry). if_accepted fetched_by e.answered)
 abbrev pub arrivals : ℕ → List Entry → List ℕ
 arrivals b = flat_map (λ (e : Entry). cond (comes_on b e.asked) (if_accepted arrived_by e.answered) [])
 
+-- of two numbers in a list, m stands before n
+abbrev pub Before : List ℕ → ℕ → ℕ → Type 0
+Before ns m n = (i : ℕ) × (j : ℕ) × (i < j) × (slice_get ns i ≡ Some m) × (slice_get ns j ≡ Some n)
+
 -- ARRIVAL ORDER. Of two packets fetched, both of which arrived on one bearer, the one fetched first arrived first.
 abbrev pub ArrivalOrder : Law
 ArrivalOrder p bs es =
-    (b i j k l m n : ℕ) → i < j →
-    slice_get (fetches es) i ≡ Some m → slice_get (arrivals b es) k ≡ Some m →
-    slice_get (fetches es) j ≡ Some n → slice_get (arrivals b es) l ≡ Some n →
-    k < l
+    (b m n : ℕ) → holds m (arrivals b es) ≡ true → holds n (arrivals b es) ≡ true → Before (fetches es) m n → Before (arrivals b es) m n
+
+-- NEVER DEAF. Once configured, after every call, no packet waits in an armed bearer; and with the gate open, a bearer with packets is listed or served.
+pub record NotDeaf (s : RawSettings) (x : Core) : Type 0 where
+  pub armed_empty : (b : ℕ) → (bearer_of x.bearers b).armed ≡ true → waits x.bearers b ≡ []
+  pub waiting_busy : is_open s x ≡ true → (b : ℕ) → waits x.bearers b ≢ [] → busy x b ≡ true
+
+abbrev pub NeverDeaf : Law
+NeverDeaf p bs es = Throughout (idle bs) es (λ _ t. OnceRunning t NotDeaf)
+
+-- how often a bearer is armed, listed or served, counted together
+abbrev pub ways : Core → ℕ → ℕ
+ways x b = cond (bearer_of x.bearers b).armed 1 0 + (times b x.listed + cond (serves x.grant b) 1 0)
+
+-- ONE WAY. Once configured, after every call, a bearer is at most one of armed, listed and served, and is listed once at most; with the gate open each bearer
+-- shown is one of them, and with the gate shut none is armed.
+pub record OneWayEach (s : RawSettings) (x : Core) : Type 0 where
+  pub once : (b : ℕ) → ways x b ≤ 1
+  pub open_some : is_open s x ≡ true → (b : ℕ) → b < length x.bearers → ways x b ≡ 1
+  pub shut_unarmed : is_open s x ≡ false → (b : ℕ) → (bearer_of x.bearers b).armed ≡ false
+
+abbrev pub OneWay : Law
+OneWay p bs es = Throughout (idle bs) es (λ _ t. OnceRunning t OneWayEach)
+
+-- the grants begun on a bearer
+abbrev pub begun_by : ℕ → Option Progress → ℕ
+begun_by b (Some (Begun c q)) = cond (c == b) 1 0
+begun_by b _ = 0
+
+abbrev pub begun_on : ℕ → Result Answer Refusal → ℕ
+begun_on b (Err r) = 0
+begun_on b (Ok a) = begun_by b (progress_in a)
+
+abbrev pub begins : ℕ → List Entry → ℕ
+begins b = sum_by (λ (e : Entry). begun_on b e.answered)
+
+-- packets wait in a bearer
+abbrev pub Waiting : ℕ → State → Type 0
+Waiting b (idle bs) = waits bs b ≢ []
+Waiting b (running s x) = waits x.bearers b ≢ []
+
+abbrev pub AlwaysWaiting : ℕ → List Entry → Type 0
+AlwaysWaiting b [] = Unit {0}
+AlwaysWaiting b (e ∷ es) = Waiting b e.after × AlwaysWaiting b es
+
+-- EQUAL TURNS. Wherever the trace is cut into before, stretch and after, and a bearer has packets at the stretch's start and after each of its calls, no other
+-- bearer begins more than one grant more in the stretch. So of two such bearers each begins at most one more than the other.
+abbrev pub EqualTurns : Law
+EqualTurns p bs es =
+    (before stretch after : List Entry) → es ≡ before ++ (stretch ++ after) →
+    (b c : ℕ) → b ≢ c →
+    Waiting c (end_of (idle bs) before) → AlwaysWaiting c stretch →
+    begins b stretch ≤ begins c stretch + 1
+
+-- the packets that steps took
+abbrev pub taken_by : Option Progress → ℕ
+taken_by (Some (Taken n q)) = 1
+taken_by _ = 0
+
+abbrev pub taken_on : Result Answer Refusal → ℕ
+taken_on (Err r) = 0
+taken_on (Ok a) = taken_by (progress_in a)
+
+abbrev pub takes : List Entry → ℕ
+takes = sum_by (λ (e : Entry). taken_on e.answered)
+
+-- BOUNDED BATCHES. A grant begins with the policy's quota for the packets that wait in its bearer, and no more than that are taken before the next one begins.
+pub record Batch (p : Batches) (l : Ledger) (b q : ℕ) (stretch : List Entry) : Type 0 where
+  pub quota : q ≡ p.quota b (length (column l b))
+  pub bound : takes stretch ≤ q
+
+abbrev pub BoundedBatches : Law
+BoundedBatches p bs es =
+    (before stretch after : List Entry) (e : Entry) (b q : ℕ) → es ≡ before ++ e ∷ (stretch ++ after) →
+    e.answered ≡ Ok (Stepped (Begun b q)) → ((c : ℕ) → begins c stretch ≡ 0) → Batch p (ledger bs before) b q stretch
+
+-- QUIET BETWEEN CALLS. Once configured, after every call every signal is down.
+abbrev pub Quiet : Law
+Quiet p bs es = Throughout (idle bs) es (λ _ t. OnceRunning t (λ s x. (b : ℕ) → (bearer_of x.bearers b).signal ≡ false))

