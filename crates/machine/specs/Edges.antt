@@ -3,11 +3,11 @@ use Rattle.std.specs.Prelude.{ℕ, false, List, [], ◌∷◌, Some, None}
 use Rattle.board.specs.declared.packets.Packet.{Packet}
 use Rattle.board.specs.Bearers.{Bearer}
 use Rattle.machine.specs.declared.answers.Answer.TheVariants.{Configured, Stepped, Worked, Fetched, Finished, Discarded, Told}
-use Rattle.machine.specs.declared.answers.Progress.TheVariants.{Begun, Taken, Rescheduled, Completed}
+use Rattle.machine.specs.declared.answers.Progress.TheVariants.{Begun, Taken, Rescheduled, Completed, Empty}
 use Rattle.machine.specs.declared.calls.Call.TheVariants.{Configure, Arrive, Step, Work, Fetch, Finish, Discard, Tell}
 use Rattle.machine.specs.State.{Core, State, idle, running}
 use Rattle.machine.specs.Machine.{no_counts, fresh}
-use Rattle.machine.specs.Examples.{Line, ◌answers◌, ◌refused◌at◌, shows, hold, closed, ring, mailbox, standard_board, standard, accepted, queued}
+use Rattle.machine.specs.Examples.{Line, ◌answers◌, ◌refused◌at◌, shows, hold, closed, ring, mailbox, standard_board, standard, accepted, queued, used, armed}
 
 -- a packet of one octet
 abbrev pub short : ℕ → Packet
@@ -173,5 +173,106 @@ edges =
           ∷ Step refused 23 at 0
           ∷ Work 0 refused 23 at 0
           ∷ [],
+    )
+    -- U. A charge may close a period: the cycles past its end are the new period's. What the application is offered uses up nothing of N. The hold is set behind the charge.
+    ∷ (
+      new,
+      Configure (record standard { size = 1; high = 1; low = 0; hold = 1 }) answers Configured
+          ∷ Arrive 0 1 0 answers accepted 0
+          ∷ Step answers Stepped (Begun 0 4)
+          ∷ Work 63800 answers Worked
+          ∷ shows used 140
+          ∷ Step answers queued 0
+          ∷ shows closed 1
+          ∷ shows used 560
+          ∷ shows hold 1
+          ∷ Work 63441 refused 27 at 63440
+          ∷ [],
+    )
+    -- V. Marks that are apart: at H the hold begins, and no bearer is armed; at L it ends. Above H it begins as well.
+    ∷ (
+      new,
+      Configure (record standard { size = 4; high = 2; low = 1; hold = 1 }) answers Configured
+          ∷ Arrive 0 1 0 answers accepted 0
+          ∷ Arrive 0 1 0 answers accepted 1
+          ∷ Arrive 0 1 0 answers accepted 2
+          ∷ Arrive 0 1 0 answers accepted 3
+          ∷ Step answers Stepped (Begun 0 4)
+          ∷ Step answers queued 0
+          ∷ shows hold 0
+          ∷ Step answers queued 1
+          ∷ shows hold 1
+          ∷ shows (armed 1) 0
+          ∷ Step answers Stepped Rescheduled
+          ∷ Fetch answers Fetched (short 0)
+          ∷ shows hold 0
+          ∷ shows (armed 1) 1
+          ∷ Step answers Stepped (Begun 0 4)
+          ∷ Step answers queued 2
+          ∷ shows hold 1
+          ∷ Step answers Stepped Rescheduled
+          ∷ Work 61920 answers Worked
+          ∷ shows hold 0
+          ∷ Step answers Stepped (Begun 0 4)
+          ∷ Step answers queued 3
+          ∷ shows hold 1
+          ∷ [],
+    )
+    -- W. A grant takes its quota and no more. A bearer that is found empty with the gate open is armed again, and not listed.
+    ∷ (
+      new,
+      Configure standard answers Configured
+          ∷ Arrive 0 1 0 answers accepted 0
+          ∷ Arrive 0 1 0 answers accepted 1
+          ∷ Arrive 0 1 0 answers accepted 2
+          ∷ Arrive 0 1 0 answers accepted 3
+          ∷ Arrive 0 1 0 answers accepted 4
+          ∷ Step answers Stepped (Begun 0 4)
+          ∷ Step answers queued 0
+          ∷ Step answers queued 1
+          ∷ Step answers queued 2
+          ∷ Step answers queued 3
+          ∷ Step answers Stepped Rescheduled
+          ∷ Step answers Stepped (Begun 0 4)
+          ∷ Step answers queued 4
+          ∷ Step answers Stepped Empty
+          ∷ Step answers Stepped Completed
+          ∷ shows (armed 0) 1
+          ∷ Step refused 26 at 0
+          ∷ [],
+    )
+    -- X. With used at N the gate shuts. When it opens, bearers in which packets wait are listed in number order, without a charge.
+    ∷ (
+      new,
+      Configure (record standard { limit = 60 }) answers Configured
+          ∷ Arrive 0 1 0 answers accepted 0
+          ∷ shows used 60
+          ∷ shows (armed 1) 0
+          ∷ Step refused 24 at 0
+          ∷ Arrive 2 1 0 answers accepted 1
+          ∷ Arrive 1 1 0 answers accepted 2
+          ∷ shows used 60
+          ∷ Work 63940 answers Worked
+          ∷ shows used 0
+          ∷ Step answers Stepped (Begun 0 4)
+          ∷ Step answers queued 0
+          ∷ Step answers Stepped Empty
+          ∷ Step answers Stepped Completed
+          ∷ Work 63300 answers Worked
+          ∷ Step answers Stepped (Begun 1 4)
+          ∷ [],
+    )
+    -- Y. That the receiver is retired is checked first, with a grant and without. A receipt can be spent as well by discard.
+    ∷ (
+      running standard (record just_configured {
+        counts = record no_counts { numbered = 1000000000 };
+        grant = Some (record { bearer = 0; left = 4 });
+        out = 8 ∷ [];
+      }),
+      Step refused 23 at 0 ∷ Discard 8 answers Discarded ∷ [],
+    )
+    ∷ (
+      running standard (record just_configured { clock = record just_configured.clock { closed = 1000000000; used = 32000 }; hold = 1 }),
+      Step refused 23 at 0 ∷ [],
     )
     ∷ []
