@@ -12,10 +12,11 @@ use Rattle.machine.specs.State.{Grant, Core, Batches, waits, is_open}
 use Rattle.machine.specs.Moves.{arm, disarm, join, charge, offer_cycles, one_numbered, one_bearer_full, one_queue_full, one_delivered, one_discarded}
 use Rattle.machine.specs.Numbers.{without}
 
--- a packet that arrives gets the next number and is offered to its bearer
+-- a packet that arrives gets the next number
 abbrev pub next_packet : ℕ → ℕ → Core → Packet
 next_packet n t x = record { number = x.counts.numbered; length = n; tag = t }
 
+-- and is offered to its bearer
 abbrev pub packet_offered : ℕ → ℕ → ℕ → Core → Core
 packet_offered b n t x = record x { bearers = changed x.bearers b (after_offer (next_packet n t x)); counts = one_numbered x.counts }
 
@@ -49,7 +50,7 @@ module _ (s : RawSettings) where
         charge s 80 (record x { listed = drop 1 x.listed; grant = Some (record { bearer = b; left = q }) }),
       )
 
-  -- step, a grant with packets left: take from its bearer
+  -- the queue has room for a packet
   abbrev pub has_queue_room : Core → Bool
   has_queue_room x = nat_lt (length x.queue) s.size
 
@@ -57,13 +58,15 @@ module _ (s : RawSettings) where
   abbrev pub queued : Packet → Core → Core
   queued q x = cond (has_queue_room x) (record x { queue = x.queue ++ q ∷ [] }) (record x { counts = one_queue_full x.counts })
 
+  -- the grant has one left less, and the take cost and the class cost are charged
+  abbrev pub paid : Grant → Packet → Core → Core
+  paid g q x = charge s ((bearer_of x.bearers g.bearer).cost + cost_of_length q.length) (left_with g (g.left - 1) (taken_off g x))
+
   -- at the high mark the hold begins, and the grant has none left
   abbrev pub high_marked : Grant → Core → Core
   high_marked g x = cond (nat_le s.high (length x.queue)) (record (left_with g 0 x) { hold = s.hold }) x
 
-  abbrev pub paid : Grant → Packet → Core → Core
-  paid g q x = charge s ((bearer_of x.bearers g.bearer).cost + cost_of_length q.length) (left_with g (g.left - 1) (taken_off g x))
-
+  -- step, a grant with packets left: take from its bearer, and queue what came, if anything did
   abbrev pub take_by : Grant → Option Packet → Core → Answer × Core
   take_by g None x = (Stepped Empty, left_with g 0 (taken_off g x))
   take_by g (Some q) x = (Stepped (Taken q.number (has_queue_room x)), high_marked g (queued q (paid g q x)))
@@ -75,9 +78,11 @@ module _ (s : RawSettings) where
       (Stepped Rescheduled, record (join g.bearer x) { grant = None })
       (Stepped Completed, record (cond (is_open s x) (arm g.bearer x) x) { grant = None })
 
+  -- step with a grant
   unfoldable pub serve : Grant → Core → Answer × Core
   serve g x = cond (g.left == 0) (close g x) (take_by g (slice_get (waits x.bearers g.bearer) 0) x)
 
+  -- work: the application is offered cycles
   abbrev pub work : ℕ → Core → Answer × Core
   work c x = (Worked, offer_cycles s c x)
 
@@ -90,11 +95,13 @@ module _ (s : RawSettings) where
         record x { hold = cond (nat_le (length rest) s.low) 0 x.hold; queue = rest; out = x.out ++ q.number ∷ [] },
       )
 
+-- finish and discard: a number that is out is spent
 abbrev pub finish : ℕ → Core → Answer × Core
 finish n x = (Finished, record x { out = without n x.out; counts = one_delivered x.counts })
 
 abbrev pub discard : ℕ → Core → Answer × Core
 discard n x = (Discarded, record x { out = without n x.out; counts = one_discarded x.counts })
 
+-- tell: nothing changes
 abbrev pub tell : Core → Answer × Core
 tell x = (Told (record { counts = x.counts; closed = x.clock.closed; last = x.clock.last }), x)

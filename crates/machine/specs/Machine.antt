@@ -54,13 +54,15 @@ idle_call p (Discard n) bs = (Err NotOut, idle bs)
 idle_call p Tell bs = (Ok (Told (record { counts = no_counts; closed = 0; last = None })), idle bs)
 idle_call p _ bs = (Err NotConfigured, idle bs)
 
--- Configured. The checks of each call, in their order.
+-- Configured. Not retired: fewer than 1,000,000,000 packets are numbered, and fewer periods are closed.
 abbrev pub not_retired : Core → Check
 not_retired x = (nat_lt x.counts.numbered 1000000000 && nat_lt x.clock.closed 1000000000, Retired)
 
+-- a list is not empty
 abbrev pub any_left : {A : Type 0} → List A → Bool
 any_left xs = nat_lt 0 (length xs)
 
+-- the checks of each call, in their order
 abbrev pub arrive_checks : ℕ → ℕ → Core → List Check
 arrive_checks b n x = not_retired x ∷ (nat_lt b (length x.bearers), NotShown b) ∷ (in_range 1 384 n, BadLength n) ∷ []
 
@@ -91,7 +93,7 @@ abbrev pub step_by : RawSettings → Batches → Option Grant → Core → Answe
 step_by s p None x = begin s p x
 step_by s p (Some g) x = serve s g x
 
--- an accepted call ends by setting the gate
+-- what a call answers, and what the receiver then holds: an accepted call ends by setting the gate
 module _ (s : RawSettings) (x : Core) where
   abbrev pub checked : List Check → Answer × Core → Result Answer Refusal × Core
   checked cs done = unless (first_refusal cs) x (done.0, set_gate s x done.1)

@@ -5,7 +5,8 @@ use Rattle.machine.specs.declared.answers.Counts.{Counts}
 use Rattle.machine.specs.declared.calls.RawSettings.{RawSettings}
 use Rattle.machine.specs.State.{Clock, Core, waits, busy, is_open}
 
--- Bearers. The receiver arms a bearer only where nothing waits, or disarms it at once, so that it does not matter whether the bearer's kind raises the signal.
+-- Bearers: one is armed, one is disarmed, one joins the poll list's back. The receiver arms a bearer only where nothing waits, or disarms it at once,
+-- so that it does not matter whether the bearer's kind raises the signal.
 abbrev pub arm : ℕ → Core → Core
 arm b x = record x { bearers = changed x.bearers b (after_arm false) }
 
@@ -20,8 +21,16 @@ abbrev pub is_over : RawSettings → Clock → Bool
 is_over s k = nat_le s.period k.elapsed
 
 abbrev pub next_period : RawSettings → Clock → Clock
-next_period s k = record { elapsed = k.elapsed - s.period; used = k.elapsed - s.period; offered = 0; closed = k.closed + 1; last = Some (record { offered = k.offered; network = s.period - k.offered }) }
+next_period s k =
+    record {
+      elapsed = k.elapsed - s.period;
+      used = k.elapsed - s.period;
+      offered = 0;
+      closed = k.closed + 1;
+      last = Some (record { offered = k.offered; network = s.period - k.offered });
+    }
 
+-- a clock, with the period closed if it is over; then the hold, if there is one, falls by one
 abbrev pub settle : RawSettings → Clock → Core → Core
 settle s k x = record x { clock = cond (is_over s k) (next_period s k) k; hold = cond (is_over s k) (x.hold - 1) x.hold }
 
@@ -32,7 +41,8 @@ charge s c x = settle s (record x.clock { elapsed = x.clock.elapsed + c; used = 
 abbrev pub offer_cycles : RawSettings → ℕ → Core → Core
 offer_cycles s c x = settle s (record x.clock { elapsed = x.clock.elapsed + c; offered = x.clock.offered + c }) x
 
--- The gate. When it opens, each bearer in the order of the numbers that is neither listed nor served is armed; one in which packets wait is then disarmed and listed.
+-- The gate. When it opens, each bearer that is neither listed nor served is armed, in the order of the numbers; one in which packets wait is then disarmed
+-- and listed.
 abbrev pub open_bearer : ℕ → Core → Core
 open_bearer b x = cond (busy x b) x (cond (any_waiting (waits x.bearers b)) (join b (disarm b (arm b x))) (arm b x))
 

@@ -67,7 +67,7 @@ impl Refusal {
     pub fn place(self) -> u64
         ensures value { result ≡ place_of self }
     {
-        // Not one trait with the other crate's refusals: the variants differ, and no code is generic over both.
+        // Not one trait with `capture`'s refusals: the variants differ, and no code is generic over both.
         match self {
             Refusal::BadSetting(setting) => setting as u64,
             Refusal::NotShown(bearer) | Refusal::PacketWaits(bearer) => bearer as u64,
