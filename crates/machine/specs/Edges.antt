@@ -174,7 +174,8 @@ edges =
           ∷ Work 0 refused 23 at 0
           ∷ [],
     )
-    -- U. A charge may close a period: the cycles past its end are the new period's. What the application is offered uses up nothing of N. The hold is set behind the charge.
+    -- U. A charge may close a period: the cycles past its end are the new period's. What the application is offered uses up nothing of N. The hold is set
+    -- behind the charge.
     ∷ (
       new,
       Configure (record standard { size = 1; high = 1; low = 0; hold = 1 }) answers Configured
