@@ -83,10 +83,11 @@ abbrev pub TrueRecords : Law
 TrueRecords p bs es =
     (before after : List Entry) (e : Entry) (r : Report) → es ≡ before ++ e ∷ after → e.answered ≡ Ok (Told r) → TruePeriods before e.before r
 
--- LEDGER AGREES. Once configured, after every call, the receiver holds what the ledger says.
+-- the numbers of packets
 abbrev pub numbers : List Packet → List ℕ
 numbers = map (λ (q : Packet). q.number)
 
+-- LEDGER AGREES. Once configured, after every call, the receiver holds what the ledger says.
 pub record Agrees (x : Core) (l : Ledger) : Type 0 where
   pub waiting : map (λ (v : Bearer). numbers v.waiting) x.bearers ≡ l.columns.waiting
   pub queue : numbers x.queue ≡ l.columns.queue
@@ -96,13 +97,13 @@ pub record Agrees (x : Core) (l : Ledger) : Type 0 where
 abbrev pub LedgerAgrees : Law
 LedgerAgrees p bs es = Throughout (idle bs) es (λ before t. OnceRunning t (λ s x. Agrees x (ledger bs before)))
 
--- TRUE ANSWERS. What each accepted call answers is what the ledger says before it: the next number, accepted where the bearer's column has room; the front of
--- the column last begun, queued where the queue's column has room; the queue's front; a number that is out; the counts.
+-- a step that takes answers the front of the column last begun, and queued where the queue's column has room
 abbrev pub TrueStep : Option Progress → Ledger → Type 0
 TrueStep None l = ⊥
 TrueStep (Some (Taken n queued)) l = (slice_get (column l l.serving) 0 ≡ Some n) × (queued ≡ queue_room l)
 TrueStep (Some did) l = Unit {0}
 
+-- an arrival, the next number, and accepted where its bearer's column has room; fetch, the queue's front; what is spent is out; tell, the counts
 abbrev pub TrueAnswer : List ℕ → Call → Answer → Ledger → Type 0
 TrueAnswer depths (Configure s) a l = a ≡ Configured
 TrueAnswer depths (Arrive b n t) a l = (b < length l.columns.waiting) × (a ≡ Arrived (record { number = l.next; accepted = column_room depths l b }))
@@ -117,6 +118,7 @@ abbrev pub Truly : List ℕ → Call → Result Answer Refusal → Ledger → Ty
 Truly depths c (Err r) l = Unit {0}
 Truly depths c (Ok a) l = TrueAnswer depths c a l
 
+-- TRUE ANSWERS. What each accepted call answers is what the ledger says before it.
 abbrev pub TrueAnswers : Law
 TrueAnswers p bs es =
     (before after : List Entry) (e : Entry) → es ≡ before ++ e ∷ after → Truly (depths_of bs) e.asked e.answered (ledger bs before)

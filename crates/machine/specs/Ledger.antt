@@ -1,4 +1,4 @@
--- The ledger: an account of packet numbers that is fed calls and their answers, and nothing else.
+-- The ledger: an account of packet numbers. It knows how many bearers there are and their depths, and is told calls and their answers, and nothing else.
 use Rattle.std.specs.Prelude.{ℕ, ◌+◌, Bool, true, false, cond, List, [], ◌∷◌, ◌++◌, map, length, take, drop, replicate, Some, None, Ok, Err, fold, Option, Result, nat_lt, slice_index, slice_index_or, slice_set}
 use Rattle.board.specs.Bearers.{Bearer}
 use Rattle.machine.specs.declared.answers.Answer.{Answer}
