@@ -1,4 +1,4 @@
--- The gate, set at the end of a call, leaves all tidy, whatever it finds.
+-- The gate, set at the end of a call, leaves all tidy that was tidy, whether it opens, shuts or stays.
 use Rattle.std.proofs.Common.{◌≡◌, ℕ, zero, suc, ◌+◌, ◌<◌, ◌≤◌, Bool, true, false, cond, List, [], ◌∷◌, ◌++◌, length, Option, sym, refl, ◌∙◌, subst, ⊎_elim, arith}
 use Rattle.std.proofs.lemmas.Bool.{cases_eq, cond_both}
 use Rattle.std.proofs.lemmas.List.{length-set}

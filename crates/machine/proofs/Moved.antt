@@ -1,4 +1,5 @@
--- What a call comes to: it is refused, it configures, or it is one of the moves below. Every law is shown by these cases.
+-- What a call comes to: it is refused, it is tell asked while idle, it configures, or it is one of the moves below.
+-- What a law needs of the machine is shown by these cases.
 use Rattle.std.proofs.Common.{◌≡◌, ℕ, ◌+◌, ◌-◌, ◌<◌, ◌≤◌, Bool, true, false, cond, ◌||◌, eqb, leb, List, [], ◌∷◌, ◌++◌, length, get_or, drop, Some, None, Ok, Err, Option, Result, sym, refl, ap, ◌∙◌, subst, arith}
 use Rattle.std.specs.List.{slice_get}
 use Rattle.std.proofs.lemmas.Bool.{cond_both, cond-true, cond-false, ltb-true, leb-true, eqb-true, eqb-false}

@@ -23,7 +23,8 @@ module _ (s : RawSettings) where
   settled k = cond (is_over s k) (next_period s k) k
 
   module _ (most : ℕ) where
-    -- the accounts f agree with the clock; what bearers have used and what is due are together below `most`, and each closed period offered all the rest
+    -- the accounts f agree with the clock; what bearers have used and what is due are together below `most`, and each closed period
+    -- offered more than the period less `most`
     pub record Accounts (f : ℕ → ℕ) (k : Clock) (due : ℕ) : Type 0 where
       pub spent : k.elapsed ≡ k.used + f k.closed
       pub offered : k.offered ≡ f k.closed

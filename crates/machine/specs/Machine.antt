@@ -16,7 +16,7 @@ use Rattle.machine.specs.Calls.{arrive, begin, serve, work, fetch, finish, disca
 use Rattle.machine.specs.Checks.{Check, first_refusal, in_range}
 use Rattle.machine.specs.Numbers.{holds}
 
--- a call is refused by the first_refusal check that fails, with all as it was, or else accepted, with what it does
+-- a call is refused by the first check that fails, with all as it was, or else accepted, with what it does
 abbrev pub unless : {A : Type 0} → Option Refusal → A → Answer × A → Result Answer Refusal × A
 unless (Some r) before done = (Err r, before)
 unless None before done = (Ok done.0, done.1)
