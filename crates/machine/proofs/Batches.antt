@@ -58,12 +58,12 @@ module _ (p : Batches) where
       omega (arith, rest, first, sum_by-cons (λ (d : Entry). taken_on d.answered) e es)
 
   -- a grant that begins has its quota left, by the packets that the ledger knows in its bearer
-  record Granted (depths : List ℕ) (l : Ledger) (u : State) (b q : ℕ) : Type 0 where
+  record Granted (l : Ledger) (u : State) (b q : ℕ) : Type 0 where
     left : left_in u ≡ q
     quota : q ≡ p.quota b (length (column l b))
 
   grant_begins : (depths : List ℕ) (t u : State) (c : Call) (r : Result Answer Refusal) (l : Ledger) (b q : ℕ) →
-      TallyState depths t l → Happens p t c r u → r ≡ Ok (Stepped (Begun b q)) → Granted depths l u b q
+      TallyState depths t l → Happens p t c r u → r ≡ Ok (Stepped (Begun b q)) → Granted l u b q
   grant_begins depths _ _ _ _ l b q i refused e = cc e
   grant_begins depths _ _ _ _ l b q i asked_idle e = cc e
   grant_begins depths _ _ _ _ l b q i (configured ranges empty share) e = cc e

@@ -142,17 +142,17 @@ in_order p bs es t =
     p es t es [] (sym (append-nil es))
 
 -- where a number stands that a list holds
-place_of : (n : ℕ) (ns : List ℕ) → holds n ns ≡ true → (k : ℕ) × (slice_get ns k ≡ Some n)
-place_of n [] h = cc h
-place_of n (m ∷ ns) h =
+stands_at : (n : ℕ) (ns : List ℕ) → holds n ns ≡ true → (k : ℕ) × (slice_get ns k ≡ Some n)
+stands_at n [] h = cc h
+stands_at n (m ∷ ns) h =
     ⊎_elim
     (λ (e : m ≡ n). (0, ap Some e))
-    (λ (other : m ≡ n → ⊥). let k = place_of n ns (grind (arith, h, other)) in (suc k.0, k.1))
+    (λ (other : m ≡ n → ⊥). let k = stands_at n ns (grind (arith, h, other)) in (suc k.0, k.1))
     (cases_eq m n)
 
 pub arrival_order : Always ArrivalOrder
 arrival_order p q bs cs b m n arrived_m arrived_n fetched =
     let s = in_order p bs (trace p (idle bs) cs) (true_answers p q bs cs) in
-    let k = place_of m (arrivals b (trace p (idle bs) cs)) arrived_m in
-    let l = place_of n (arrivals b (trace p (idle bs) cs)) arrived_n in
+    let k = stands_at m (arrivals b (trace p (idle bs) cs)) arrived_m in
+    let l = stands_at n (arrivals b (trace p (idle bs) cs)) arrived_n in
     (k.0, l.0, order_places s.0 (s.1 s.0 (λ _ _. refl)) b fetched.0 fetched.1 k.0 l.0 m n fetched.2 fetched.3 k.1 fetched.4 l.1, k.1, l.1)

@@ -1,4 +1,4 @@
--- Every closed period offered the application its share: bearers use less than the limit and the grant bound together.
+-- Every closed period offered the application its share, since bearers use less than the limit and the grant bound together; and what tell answers of it is true.
 use Rattle.std.proofs.Common.{◌≡◌, ℕ, zero, suc, ◌+◌, ◌-◌, ◌*◌, ◌<◌, ◌≤◌, true, false, cond, ◌||◌, eqb, List, [], ◌∷◌, ◌++◌, length, get_or, Some, None, Ok, Option, Result, refl, ap, arith, sym, subst}
 use Rattle.std.proofs.lemmas.Bool.{cond_both}
 use Rattle.std.specs.List.{AllByRecursion}
