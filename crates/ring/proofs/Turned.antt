@@ -1,13 +1,14 @@
--- How what a ring holds changes: its slots, in the order in which it goes through them.
-use Rattle.std.proofs.Common.{◌≡◌, ℕ, ◌+◌, ◌-◌, ◌<◌, ◌≤◌, min, true, List, [], ◌∷◌, ◌++◌, length, get_or, take, drop, set, Some, sym, ap, ◌∙◌, ⊎_elim, arith}
+-- How what a queue holds changes: its slots, in the order in which it goes through them.
+use Rattle.std.proofs.Common.{◌≡◌, ℕ, ◌+◌, ◌-◌, ◌<◌, ◌≤◌, min, true, List, [], ◌∷◌, ◌++◌, length, get_or, take, drop, set, Some, refl, sym, ap, ◌∙◌, ⊎_elim, arith}
 use Rattle.std.specs.List.{slice_get}
 use Rattle.std.proofs.Math.Seq.{take-set-lt}
 use Rattle.std.proofs.lemmas.List.{same_lists, length-append, length-drop, length-take, get_or-drop, get_or-take, get_or_append_left, get_or-append_right, set-append_left, set-append_right, drop-set-add, drop-set-lt, take_more_set, take-set-le}
 use Rattle.std.proofs.lemmas.Option.{slice_get-get_or}
 use Rattle.std.proofs.lemmas.Bool.Decides.{nat_tests}
 use Rattle.std.proofs.lemmas.Bool.{cases_lt, cond-true, cond-false, lt-ltb, le-ltb}
+use Rattle.ring.specs.declared.cursors.Cursor.{Cursor}
 use Rattle.ring.specs.declared.rings.Ring.{Ring}
-use Rattle.ring.specs.Queue.{turned, turned_place, usable, places, held, has_room}
+use Rattle.ring.specs.Queue.{turned, turned_place, elements, any_free, usable, places, held}
 
 place_low : (c h i : ℕ) → i < c - h → turned_place c h i ≡ h + i
 place_low c h i a = cond-true _ _ _ (lt-ltb i (c - h) a)
@@ -23,7 +24,7 @@ place_more : (c h i : ℕ) → 1 + i < c → turned_place c (turned_place c h 0 
 place_more c h i a = grind (arith, nat_tests)
 
 module _ {X : Type 0} where
-  -- a ring of the c slots u, with its head at h
+  -- the c slots u, with the head at h
   module _ (u : List X) (c h : ℕ) (e : length u ≡ c) where
     behind : length (drop h u) ≡ c - h
     behind = omega (arith, length-drop h u)
@@ -62,47 +63,46 @@ module _ {X : Type 0} where
         ∙ sym (set-append_right (drop h u) (take h u) (c - h) i x behind l))
         (cases_lt i (c - h))
 
-  -- what a ring holds
-  module _ {most : ℕ} (r : Ring X most) where
-    used : length (usable r) ≡ places r
-    used = length-take most r.slots.now
+  -- what is held in the slots s
+  module _ (s : List X) (q : Cursor) where
+    pub how_many : length (elements s q) ≡ min q.len (length s)
+    how_many = omega (arith, length-take q.len (turned s q.head), length-turned s (length s) q.head refl)
 
-    pub length-held : length (held r) ≡ min r.len (places r)
-    length-held = omega (arith, length-take r.len (turned (usable r) r.head), length-turned (usable r) (places r) r.head used)
+    pub free_true : min q.len (length s) < length s → any_free s q ≡ true
+    free_true a = lt-ltb (length (elements s q)) (length s) (omega (arith, how_many))
 
-    pub room_true : min r.len (places r) < places r → has_room r ≡ true
-    room_true a = lt-ltb (length (held r)) (places r) (omega (arith, length-held))
-
-    pub held_at : (i j : ℕ) (x : X) → i < min r.len (places r) → j ≡ turned_place (places r) r.head i → j < places r → x ≡ get_or r.slots.now j x →
-        Some x ≡ slice_get (held r) i
-    held_at i j x a p b f =
+    pub element_at : (i j : ℕ) (x : X) → i < min q.len (length s) → j ≡ turned_place (length s) q.head i → x ≡ get_or s j x →
+        Some x ≡ slice_get (elements s q) i
+    element_at i j x a p f =
         ap Some
-        (f ∙ sym (get_or-take most r.slots.now j x (omega arith))
-        ∙ ap (λ k. get_or (usable r) k x) p
-        ∙ sym (get_or-turned (usable r) (places r) r.head used i x (omega arith))
-        ∙ sym (get_or-take r.len (turned (usable r) r.head) i x (omega arith)))
-        ∙ sym (slice_get-get_or (held r) i x (omega (arith, length-held)))
+        (f
+        ∙ ap (λ k. get_or s k x) p
+        ∙ sym (get_or-turned s (length s) q.head refl i x (omega arith))
+        ∙ sym (get_or-take q.len (turned s q.head) i x (omega arith)))
+        ∙ sym (slice_get-get_or (elements s q) i x (omega (arith, how_many)))
 
-    pub held_push : (m j : ℕ) (x : X) → m ≡ min r.len (places r) → m < places r → j ≡ turned_place (places r) r.head m →
-        take (m + 1) (turned (take most (set r.slots.now j x)) r.head) ≡ held r ++ x ∷ []
-    held_push m j x a b p =
-        ap (λ k. take (m + 1) (turned (take most (set r.slots.now k x)) r.head)) p
-        ∙ ap (λ u. take (m + 1) (turned u r.head)) (take-set-lt most r.slots.now (turned_place (places r) r.head m) x (omega (arith, place_inside (places r) r.head m b)))
-        ∙ ap (take (m + 1)) (set-turned (usable r) (places r) r.head used m x b)
-        ∙ take_more_set (turned (usable r) r.head) m x (omega (arith, length-turned (usable r) (places r) r.head used))
-        ∙ ap (λ k. take k (turned (usable r) r.head) ++ x ∷ []) (omega arith)
+    pub elements_push : (m j : ℕ) (x : X) → m ≡ min q.len (length s) → m < length s → j ≡ turned_place (length s) q.head m →
+        take (m + 1) (turned (set s j x) q.head) ≡ elements s q ++ x ∷ []
+    elements_push m j x a b p =
+        ap (λ k. take (m + 1) (turned (set s k x) q.head)) p
+        ∙ ap (take (m + 1)) (set-turned s (length s) q.head refl m x b)
+        ∙ take_more_set (turned s q.head) m x (omega (arith, length-turned s (length s) q.head refl))
+        ∙ ap (λ k. take k (turned s q.head) ++ x ∷ []) (omega arith)
 
-    pub held_pop : (m j : ℕ) → m ≡ min r.len (places r) → 0 < m → j ≡ turned_place (places r) r.head 0 →
-        take (m - 1) (turned (usable r) (j + 1)) ≡ drop 1 (held r)
-    held_pop m j a b p =
-        let l : length (take (m - 1) (turned (usable r) (j + 1))) ≡ m - 1 = omega (arith, length-take (m - 1) (turned (usable r) (j + 1)), length-turned (usable r) (places r) (j + 1) used) in
+    pub elements_pop : (m j : ℕ) → m ≡ min q.len (length s) → 0 < m → j ≡ turned_place (length s) q.head 0 →
+        take (m - 1) (turned s (j + 1)) ≡ drop 1 (elements s q)
+    elements_pop m j a b p =
+        let l : length (take (m - 1) (turned s (j + 1))) ≡ m - 1 = omega (arith, length-take (m - 1) (turned s (j + 1)), length-turned s (length s) (j + 1) refl) in
         same_lists _ _
-        (omega (arith, l, length-drop 1 (held r), length-held))
+        (omega (arith, l, length-drop 1 (elements s q), how_many))
         (λ i d f.
-        get_or-take (m - 1) (turned (usable r) (j + 1)) i d (omega (arith, l))
-        ∙ get_or-turned (usable r) (places r) (j + 1) used i d (omega (arith, l))
-        ∙ ap (λ k. get_or (usable r) (turned_place (places r) (k + 1) i) d) p
-        ∙ ap (λ k. get_or (usable r) k d) (place_more (places r) r.head i (omega (arith, l)))
-        ∙ sym (get_or-turned (usable r) (places r) r.head used (1 + i) d (omega (arith, l)))
-        ∙ sym (get_or-take r.len (turned (usable r) r.head) (1 + i) d (omega (arith, l)))
-        ∙ sym (get_or-drop 1 (held r) i d))
+        get_or-take (m - 1) (turned s (j + 1)) i d (omega (arith, l))
+        ∙ get_or-turned s (length s) (j + 1) refl i d (omega (arith, l))
+        ∙ ap (λ k. get_or s (turned_place (length s) (k + 1) i) d) p
+        ∙ ap (λ k. get_or s k d) (place_more (length s) q.head i (omega (arith, l)))
+        ∙ sym (get_or-turned s (length s) q.head refl (1 + i) d (omega (arith, l)))
+        ∙ sym (get_or-take q.len (turned s q.head) (1 + i) d (omega (arith, l)))
+        ∙ sym (get_or-drop 1 (elements s q) i d))
+
+  pub length-held : {most : ℕ} (r : Ring X most) → length (held r) ≡ min r.cursor.len (places r)
+  length-held {most} r = omega (arith, how_many (usable r) r.cursor, length-take most r.slots.now)

@@ -1,18 +1,16 @@
-ghost use Rattle.std.specs.Prelude.{◌≡◌, ◌<◌, min, false, [], ◌∷◌, ◌++◌, length, drop, if◌then◌else◌, Ok, Err};
+ghost use Rattle.std.specs.Prelude.{◌≡◌, false, [], ◌∷◌, ◌++◌, length, drop, if◌then◌else◌, Ok, Err};
 ghost use Rattle.std.specs.List.{slice_get};
-ghost use Rattle.ring.specs.Queue.{turned_place, beyond, places, held, has_room};
+ghost use Rattle.ring.specs.Queue.{usable, beyond, places, held, has_room};
+
+use crate::cursors::Cursor;
 
 /// A queue in lent slots: the first `MOST` of them, or all if there are fewer. The slots behind those are left alone.
 ///
-/// It has no invariant: `head` and `len` mean something whatever they are, so a ring can be held by value anywhere.
-// They stand beside the slots, since these are lent and a queue may not allocate.
+/// It has no invariant, so a ring can be held by value anywhere.
 #[derive(Drop)]
 pub struct Ring<'a, T, const MOST: usize> {
     slots: &'a mut [T],
-    /// The slot of the oldest element. Past the last slot it stands for the first.
-    head: usize,
-    /// How many slots are used, each behind the one before and the first behind the last. More than there are stands for all.
-    len: usize,
+    cursor: Cursor,
 }
 
 impl<'a, T: Copy, const MOST: usize> Ring<'a, T, MOST> {
@@ -23,8 +21,7 @@ impl<'a, T: Copy, const MOST: usize> Ring<'a, T, MOST> {
     {
         Ring {
             slots,
-            head: 0,
-            len: 0,
+            cursor: Cursor::empty(),
         }
     }
 
@@ -35,25 +32,18 @@ impl<'a, T: Copy, const MOST: usize> Ring<'a, T, MOST> {
         MOST.min(self.slots.len())
     }
 
+    /// The slots that it uses.
+    fn usable(&self) -> &[T]
+        ensures value { result.now ≡ usable self.now }
+    {
+        &self.slots[..self.capacity()]
+    }
+
     /// How many elements it holds.
     pub fn len(&self) -> usize
         ensures value { result ≡ length (held self.now) }
-        ensures within { result ≡ min self.now.len (places self.now) }
     {
-        self.len.min(self.capacity())
-    }
-
-    /// The slot that is `i` places behind the head.
-    fn slot(&self, i: usize) -> usize
-        ensures value { result ≡ turned_place (places self.now) self.now.head i }
-        ensures inside { i < places self.now → result < places self.now }
-    {
-        let to_the_end = self.capacity().saturating_sub(self.head);
-        if i < to_the_end {
-            self.head + i
-        } else {
-            i - to_the_end
-        }
+        self.cursor.len(self.usable())
     }
 
     /// Puts the element behind all others, or hands it back if every slot is used.
@@ -65,14 +55,8 @@ impl<'a, T: Copy, const MOST: usize> Ring<'a, T, MOST> {
         ensures lender { self.new.slots.ghost_name ≡ self.old.slots.ghost_name }
         ensures beyond { beyond self.new ≡ beyond self.old }
     {
-        let len = self.len();
-        if len == self.capacity() {
-            return Err(element);
-        }
-        let at = self.slot(len);
-        self.slots[at] = element;
-        self.len = len + 1;
-        Ok(())
+        let places = self.capacity();
+        self.cursor.push(&mut self.slots[..places], element)
     }
 
     /// Takes out the oldest element.
@@ -81,24 +65,16 @@ impl<'a, T: Copy, const MOST: usize> Ring<'a, T, MOST> {
         ensures after { held self.new ≡ drop 1 (held self.old) }
         ensures same { self.new.slots ≡ self.old.slots }
     {
-        let len = self.len();
-        if len == 0 {
-            return None;
-        }
-        let oldest = self.slot(0);
-        let element = self.slots[oldest];
-        self.head = oldest + 1;
-        self.len = len - 1;
-        Some(element)
+        let mut cursor = self.cursor;
+        let oldest = cursor.pop(self.usable());
+        self.cursor = cursor;
+        oldest
     }
 
     /// The `i`-th element, counted from the oldest.
     pub fn get(&self, i: usize) -> Option<T>
         ensures value { result ≡ slice_get (held self.now) i }
     {
-        if i >= self.len() {
-            return None;
-        }
-        Some(self.slots[self.slot(i)])
+        self.cursor.get(self.usable(), i)
     }
 }

@@ -43,3 +43,34 @@ fn leaves_slots_past_the_most_alone(rt: HostRuntime) {
     }
     assert_eq!(rt; slots, [3, 4, 5, 5]);
 }
+
+#[test]
+fn queue_wraps_twice(rt: HostRuntime) {
+    let mut queue: Queue<u64, 3> = Queue::new(0);
+    assert_eq!(rt; queue.push(1), Ok(()));
+    assert_eq!(rt; queue.push(2), Ok(()));
+    for newest in 3..10u64 {
+        let oldest = newest - 2;
+        assert_eq!(rt; queue.push(newest), Ok(()));
+        assert_eq!(rt; queue.get(0), Some(oldest));
+        assert_eq!(rt; queue.get(2), Some(newest));
+        assert_eq!(rt; queue.get(3), None);
+        assert_eq!(rt; queue.pop(), Some(oldest));
+        assert_eq!(rt; queue.len(), 2);
+    }
+}
+
+#[test]
+fn queue_full(rt: HostRuntime) {
+    let mut queue: Queue<u8, 2> = Queue::new(7);
+    assert_eq!(rt; queue.pop(), None);
+    assert_eq!(rt; queue.push(1), Ok(()));
+    assert_eq!(rt; queue.push(2), Ok(()));
+    assert_eq!(rt; queue.push(3), Err(3));
+    assert_eq!(rt; queue.len(), 2);
+    assert_eq!(rt; queue.pop(), Some(1));
+    assert_eq!(rt; queue.push(3), Ok(()));
+    assert_eq!(rt; queue.pop(), Some(2));
+    assert_eq!(rt; queue.pop(), Some(3));
+    assert_eq!(rt; queue.pop(), None);
+}

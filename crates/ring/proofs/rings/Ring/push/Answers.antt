@@ -1,9 +1,0 @@
-use Rattle.std.proofs.Common.{sym, ◌∙◌, arith}
-use Rattle.std.proofs.lemmas.Bool.{cond-true}
-use Rattle.ring.proofs.Turned.{room_true, held_push}
-use Rattle.ring.proofs.rings.Ring.push.Goals as goal
-
-pub returns-clause-after : goal.returns-clause-after
-returns-clause-after g c =
-    held_push c.args.self.now c.len-len.result c.slot-at.result c.args.element c.len-len.ensures.within (omega arith) c.slot-at.ensures.value
-    ∙ sym (cond-true _ _ _ (room_true c.args.self.now (omega arith)))
