@@ -49,14 +49,14 @@ module _ (p : Batches) (depths : List ℕ) where
   keeps_tally _ _ _ _ l i (configured {bs = bs} {s = s} ranges empty share) =
       subst (λ ds. TallyCore ds s (fresh bs) (record l { size = s.size })) i.1
       (subst (λ (k : Ledger). TallyCore (depths_of bs) s (fresh bs) (record k { size = s.size })) (sym i.0) (fresh_tally s bs empty))
-  keeps_tally _ _ _ _ l i (moved {s = s} {x = x} {y = y} {c = c} {a = a} m) =
+  keeps_tally _ _ _ _ l i (moved {s = s} {x = x} {y = y} {c = c} {a = a} m _) =
       gate_tally depths s x y (accepted depths c a l) (move_tally s p x depths l i c a y m)
 
   answers_true : (t u : State) (c : Call) (r : Result Answer Refusal) (l : Ledger) → TallyState depths t l → Happens p t c r u → Truly depths c r l
   answers_true _ _ _ _ l i refused = tt
   answers_true _ _ _ _ l i (asked_idle {bs = bs}) = (_, refl, ap counts_of (sym i.0))
   answers_true _ _ _ _ l i (configured ranges empty share) = refl
-  answers_true _ _ _ _ l i (moved {s = s} {x = x} {y = y} {c = c} {a = a} m) = move_true s p x depths l i c a y m
+  answers_true _ _ _ _ l i (moved {s = s} {x = x} {y = y} {c = c} {a = a} m _) = move_true s p x depths l i c a y m
 
 -- the invariant of every list of calls
 module _ (p : Batches) (bs : List Bearer) where

@@ -1,11 +1,11 @@
 -- Small facts about tests, lists and changed bearers.
-use Rattle.std.proofs.Common.{◌≡◌, ℕ, zero, suc, ◌<◌, ◌≤◌, Bool, true, false, ltb, List, [], ◌∷◌, map, length, set, sym, refl, ap, ◌∙◌, subst, ⊎_elim, arith, get_or, ◌+◌, ◌++◌}
+use Rattle.std.proofs.Common.{◌≡◌, ℕ, zero, suc, ◌<◌, ◌≤◌, Bool, true, false, cond, eqb, ltb, List, [], ◌∷◌, map, length, set, sym, refl, ap, ◌∙◌, subst, ⊎_elim, arith, get_or, ◌+◌, ◌++◌}
 use Rattle.std.proofs.lemmas.List.{set-get_or, get_or-set_other, get_or_past, nil_from_length, get_or-set_same, set_past}
 use Rattle.std.proofs.lemmas.Bool.{cases_lt, cases_eq, ltb-false}
 use Rattle.board.specs.Bearers.{Bearer, absent, bearer_of, changed}
 use Rattle.machine.specs.State.{Core}
 use Rattle.machine.specs.Moves.{on_each}
-use Rattle.machine.specs.Numbers.{times}
+use Rattle.machine.specs.Numbers.{holds, times, without}
 
 -- what holds of each value of a test
 pub tested : (P : Bool → Type 0) (b : Bool) → (b ≡ true → P true) → (b ≡ false → P false) → P b
@@ -53,11 +53,21 @@ pub none_left : {A : Type 0} (xs : List A) → ltb 0 (length xs) ≡ false → x
 none_left xs h = nil_from_length xs (omega (arith, ltb-false 0 (length xs) h))
 
 -- what each move keeps, moves on one bearer after another keep
-pub on_each_keeps : (P : Core → Type 0) (move : ℕ → Core → Core) → ((b : ℕ) (x : Core) → P x → P (move b x)) → (i n : ℕ) (x : Core) → P x →
+pub on_each_keeps : (P : Core → Type 0) (move : ℕ → Core → Core) (i n : ℕ) → ((b : ℕ) (x : Core) → b < i + n → P x → P (move b x)) → (x : Core) → P x →
     P (on_each move i n x)
-on_each_keeps P move keep i zero x h = h
-on_each_keeps P move keep i (suc n) x h = on_each_keeps P move keep (i + 1) n (move i x) (keep i x h)
+on_each_keeps P move i zero keep x h = h
+on_each_keeps P move i (suc n) keep x h =
+    on_each_keeps P move (i + 1) n (λ b y l. keep b y (omega arith)) (move i x) (keep i x (omega arith) h)
 
+-- how often a number is in two lists, and in one that another number has left; and how long that one then is
 pub times-append : (n : ℕ) (l m : List ℕ) → times n (l ++ m) ≡ times n l + times n m
 times-append n [] m = omega arith
 times-append n (h ∷ t) m = omega (arith, times-append n t m)
+
+pub times-without : (n m : ℕ) (l : List ℕ) → holds m l ≡ true → times n (without m l) + cond (eqb m n) 1 0 ≡ times n l
+times-without n m [] h = cc
+times-without n m (k ∷ l) h = grind (arith, times-without n m l)
+
+pub length-without : (n : ℕ) (l : List ℕ) → holds n l ≡ true → length (without n l) + 1 ≡ length l
+length-without n [] h = cc
+length-without n (k ∷ l) h = grind (arith, length-without n l)

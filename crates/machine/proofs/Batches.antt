@@ -46,7 +46,7 @@ module _ (p : Batches) where
   call_takes _ _ _ _ refused none = omega arith
   call_takes _ _ _ _ asked_idle none = omega arith
   call_takes _ _ _ _ (configured ranges empty share) none = omega arith
-  call_takes _ _ _ _ (moved {s = s} {x = x} {y = y} {c = c} {a = a} m) none =
+  call_takes _ _ _ _ (moved {s = s} {x = x} {y = y} {c = c} {a = a} m _) none =
       omega (arith, move_takes s x y c a m none, ap left_to (gate_unmoved s x y).grant)
 
   stretch_takes : (es after : List Entry) (cs : List Call) (t : State) → trace p t cs ≡ es ++ after → ((b : ℕ) → begins b es ≡ 0) → takes es ≤ left_in t
@@ -67,7 +67,7 @@ module _ (p : Batches) where
   grant_begins depths _ _ _ _ l b q i refused e = cc e
   grant_begins depths _ _ _ _ l b q i asked_idle e = cc e
   grant_begins depths _ _ _ _ l b q i (configured ranges empty share) e = cc e
-  grant_begins depths _ _ _ _ l b q i (moved {s = s} {x = x} {y = y} m) e = record {
+  grant_begins depths _ _ _ _ l b q i (moved {s = s} {x = x} {y = y} m _) e = record {
     left = ap left_to (gate_unmoved s x y).grant ∙ (by m (cc e)).0;
     quota = (by m (cc e)).1;
   }

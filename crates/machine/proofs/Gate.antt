@@ -18,7 +18,7 @@ pub on_each_reaches : (P : Core → Type 0) (Q : ℕ → Core → Type 0) (move 
 on_each_reaches P Q move keep reach stay i zero x h c low high = absurd (omega arith)
 on_each_reaches P Q move keep reach stay i (suc n) x h c low high =
     ⊎_elim
-    (λ (e : c ≡ i). (on_each_keeps (λ y. P y × Q c y) move (λ b y k. (keep b y k.0, stay b c y k.0 k.1)) (i + 1) n (move i x)
+    (λ (e : c ≡ i). (on_each_keeps (λ y. P y × Q c y) move (i + 1) n (λ b y _ k. (keep b y k.0, stay b c y k.0 k.1)) (move i x)
     (keep i x h, subst (λ d. Q d (move i x)) (sym e) (reach i x h))).1)
     (λ (ne : c ≡ i → ⊥). on_each_reaches P Q move keep reach stay (i + 1) n (move i x) (keep i x h) c (omega arith) (omega arith))
     (cases_eq c i)
@@ -92,7 +92,7 @@ unfolding open_gate
 opened_tidy x t =
     let n : ℕ = length x.bearers in
     let start : OpeningCore n x = record { size = refl; calm = t.calm; once = t.once } in
-    let o : OpeningCore n (on_each open_bearer 0 n x) = on_each_keeps (OpeningCore n) open_bearer (λ b y k. (step_opened n b y k).opening) 0 n x start in
+    let o : OpeningCore n (on_each open_bearer 0 n x) = on_each_keeps (OpeningCore n) open_bearer 0 n (λ b y _ k. (step_opened n b y k).opening) x start in
     record {
       calm = o.calm;
       once = o.once;

@@ -41,7 +41,7 @@ held_times : (n : ℕ) (l : List ℕ) → holds n l ≡ true → 1 ≤ times n l
 held_times n [] e = cc
 held_times n (h ∷ t) e = grind (arith, held_times n t)
 
-free_times : (n : ℕ) (l : List ℕ) → holds n l ≡ false → times n l ≡ 0
+pub free_times : (n : ℕ) (l : List ℕ) → holds n l ≡ false → times n l ≡ 0
 free_times n [] e = refl
 free_times n (h ∷ t) e = grind (arith, free_times n t)
 

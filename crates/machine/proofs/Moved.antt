@@ -1,8 +1,8 @@
 -- What a call comes to: it is refused, it is tell asked while idle, it configures, or it is one of the moves below.
 -- What a law needs of the machine is shown by these cases.
-use Rattle.std.proofs.Common.{◌≡◌, ℕ, ◌+◌, ◌-◌, ◌<◌, ◌≤◌, Bool, true, false, cond, ◌||◌, eqb, leb, List, [], ◌∷◌, ◌++◌, length, get_or, drop, Some, None, Ok, Err, Option, Result, sym, refl, ap, ◌∙◌, subst, arith}
+use Rattle.std.proofs.Common.{◌≡◌, ℕ, ◌+◌, ◌-◌, ◌<◌, ◌≤◌, Bool, true, false, cond, ◌||◌, eqb, ltb, leb, List, [], ◌∷◌, ◌++◌, length, get_or, drop, Some, None, Ok, Err, Option, Result, sym, refl, ap, ◌∙◌, subst, arith}
 use Rattle.std.specs.List.{slice_get}
-use Rattle.std.proofs.lemmas.Bool.{cond_both, cond-true, cond-false, ltb-true, leb-true, eqb-true, eqb-false}
+use Rattle.std.proofs.lemmas.Bool.{cond_both, cond-true, cond-false, and_parts, ltb-true, leb-true, eqb-true, eqb-false}
 use Rattle.board.specs.declared.packets.Packet.{Packet}
 use Rattle.board.specs.Bearers.{blank, Bearer, bearer_of, changed, has_room, any_waiting, after_offer, after_arm, after_disarm}
 use Rattle.board.specs.Costs.{cost_of_length}
@@ -18,7 +18,7 @@ use Rattle.machine.specs.State.{Grant, Core, State, idle, running, Batches, wait
 use Rattle.machine.specs.Settings.{settings_checks, grant_bound}
 use Rattle.machine.specs.Moves.{join, charge, offer_cycles, set_gate, one_numbered, one_bearer_full, one_queue_full}
 use Rattle.machine.specs.Calls.{next_packet, left_with, taken_off, heard, arrive, begin, has_queue_room, high_marked, paid, take_by, close, serve, work, fetch, finish, discard, tell}
-use Rattle.machine.specs.Machine.{unless, any_left, no_counts, fresh, waiting_checks, configure_checks, idle_call, arrive_checks, step_checks, work_checks, fetch_checks, out_checks, step_by, checked, running_call, call}
+use Rattle.machine.specs.Machine.{unless, any_left, no_counts, fresh, waiting_checks, configure_checks, idle_call, not_retired, arrive_checks, step_checks, work_checks, fetch_checks, out_checks, step_by, checked, running_call, call}
 use Rattle.machine.proofs.Basics.{tested, changed_same, none_left}
 use Rattle.machine.specs.Checks.{Check, first_refusal}
 use Rattle.machine.specs.Numbers.{holds}
@@ -64,6 +64,24 @@ pub data Move (s : RawSettings) (p : Batches) (x : Core) : Call → Answer → C
   discarded : {n : ℕ} → holds n x.out ≡ true → Move s p x (Discard n) Discarded (discard n x).1
   told : Move s p x Tell (tell x).0 x
 
+-- What was checked of the receiver's own figures: it is not retired, where a packet may be numbered or a period closed; and fewer than sixteen are out,
+-- where one more goes out.
+pub record Unretired (x : Core) : Type 0 where
+  pub numbered : x.counts.numbered < 1000000000
+  pub closed : x.clock.closed < 1000000000
+
+abbrev pub Allowed : Core → Call → Type 0
+Allowed x (Arrive b n t) = Unretired x
+Allowed x Step = Unretired x
+Allowed x (Work c) = Unretired x
+Allowed x Fetch = length x.out < 16
+Allowed x _ = Unit {0}
+
+unretired : (x : Core) → (not_retired x).0 ≡ true → Unretired x
+unretired x h =
+    let both = and_parts (ltb x.counts.numbered 1000000000) (ltb x.clock.closed 1000000000) h in
+    record { numbered = ltb-true x.counts.numbered 1000000000 both.0; closed = ltb-true x.clock.closed 1000000000 both.1 }
+
 -- what checks that all passed tell
 abbrev pub Passed : List Check → Type 0
 Passed [] = Unit {0}
@@ -86,13 +104,13 @@ pub data Happens (p : Batches) : State → Call → Result Answer Refusal → St
   asked_idle : {bs : List Bearer} → Happens p (idle bs) Tell (Ok (Told (record { counts = no_counts; closed = 0; last = None }))) (idle bs)
   configured : {bs : List Bearer} {s : RawSettings} → Passed (settings_checks s) → Passed (waiting_checks 0 bs) → s.limit + grant_bound p bs ≤ s.period →
       Happens p (idle bs) (Configure s) (Ok Configured) (running s (fresh bs))
-  moved : {s : RawSettings} {x y : Core} {c : Call} {a : Answer} → Move s p x c a y → Happens p (running s x) c (Ok a) (running s (set_gate s x y))
+  moved : {s : RawSettings} {x y : Core} {c : Call} {a : Answer} → Move s p x c a y → Allowed x c → Happens p (running s x) c (Ok a) (running s (set_gate s x y))
 
 module _ (s : RawSettings) (p : Batches) (x : Core) where
   abbrev Moves : Call → Answer × Core → Type 0
   Moves c r = Move s p x c r.0 r.1
 
-  arrive_moves : (b n t : ℕ) → b < length x.bearers → Moves (Arrive b n t) (arrive s b n t x)
+  pub arrive_moves : (b n t : ℕ) → b < length x.bearers → Moves (Arrive b n t) (arrive s b n t x)
   unfolding arrive
   arrive_moves b n t l =
       tested (λ room. Arrives room (after room (changed x.bearers b (after_offer q)))) (has_room v)
@@ -125,11 +143,15 @@ module _ (s : RawSettings) (p : Batches) (x : Core) where
           (sym (changed_twice x.bearers b (behind q) after_disarm)) (signalled l e (sym signal_is ∙ h)))
           (λ h. stored l e (sym signal_is ∙ h))
 
-  begin_moves : (l : List ℕ) → x.listed ≡ l → x.grant ≡ None → x.clock.used < s.limit → x.hold ≡ 0 → any_left l ≡ true →
+  first_moves : (l : List ℕ) → x.listed ≡ l → x.grant ≡ None → x.clock.used < s.limit → x.hold ≡ 0 → any_left l ≡ true →
       Move s p x Step (Stepped (Begun (get_or l 0 0) (p.quota (get_or l 0 0) (length (waits x.bearers (get_or l 0 0))))))
       (charge s 80 (record x { listed = drop 1 l; grant = Some (record { bearer = get_or l 0 0; left = p.quota (get_or l 0 0) (length (waits x.bearers (get_or l 0 0))) }) }))
-  begin_moves [] e g u h a = cc a
-  begin_moves (b ∷ rest) e g u h a = begun g e u h
+  first_moves [] e g u h a = cc a
+  first_moves (b ∷ rest) e g u h a = begun g e u h
+
+  pub begin_moves : x.grant ≡ None → x.clock.used < s.limit → x.hold ≡ 0 → any_left x.listed ≡ true → Moves Step (begin s p x)
+  unfolding begin
+  begin_moves g u h a = first_moves x.listed refl g u h a
 
   close_moves : (g : Grant) → x.grant ≡ Some g → Moves Step (close s g x)
   close_moves g e = cond_both (any_waiting (waits x.bearers g.bearer)) _ _ (Moves Step) (λ _. rescheduled e)
@@ -160,45 +182,48 @@ module _ (s : RawSettings) (p : Batches) (x : Core) where
       marked true r = cond_both (leb s.high (length (x.queue ++ q ∷ []))) _ _ (Takes true) (λ _. stopped true r) (λ _. goes_on true r)
       marked false r = cond_both (leb s.high (length x.queue)) _ _ (Takes false) (λ _. stopped false r) (λ _. goes_on false r)
 
-  serve_moves : (g : Grant) → x.grant ≡ Some g → Moves Step (serve s g x)
+  pub serve_moves : (g : Grant) → x.grant ≡ Some g → Moves Step (serve s g x)
   unfolding serve
   serve_moves g e = cond_both (eqb g.left 0) _ _ (Moves Step)
       (λ _. close_moves g e)
       (λ n. take_moves g (waits x.bearers g.bearer) e (eqb-false g.left 0 n) refl)
 
-  fetch_moves : (l : List Packet) → x.queue ≡ l → any_left l ≡ true →
+  front_moves : (l : List Packet) → x.queue ≡ l → any_left l ≡ true →
       Move s p x Fetch (Fetched (get_or l 0 blank)) (record x { hold = cond (leb (length (drop 1 l)) s.low) 0 x.hold; queue = drop 1 l; out = x.out ++ (get_or l 0 blank).number ∷ [] })
-  fetch_moves [] e a = cc a
-  fetch_moves (q ∷ rest) e a = fetched e
+  front_moves [] e a = cc a
+  front_moves (q ∷ rest) e a = fetched e
+
+  pub fetch_moves : any_left x.queue ≡ true → Moves Fetch (fetch s x)
+  unfolding fetch
+  fetch_moves a = front_moves x.queue refl a
 
   -- a call with its checks
   abbrev Comes : Call → Result Answer Refusal × Core → Type 0
   Comes c r = Happens p (running s x) c r.0 (running s r.1)
 
-  checked_comes : (c : Call) (cs : List Check) (done : Answer × Core) → (Passed cs → Moves c done) → Comes c (checked s x cs done)
-  checked_comes c cs done m = by (first_refusal cs) refl
+  checked_comes : (c : Call) (cs : List Check) (done : Answer × Core) → (Passed cs → Allowed x c) → (Passed cs → Moves c done) → Comes c (checked s x cs done)
+  checked_comes c cs done k m = by (first_refusal cs) refl
     where
       by : (o : Option Refusal) → first_refusal cs ≡ o → Comes c (unless o x (done.0, set_gate s x done.1))
       by (Some r) e = refused
-      by None e = moved (m (all_passed cs e))
+      by None e = let h = all_passed cs e in moved (m h) (k h)
 
   step_comes : (g : Option Grant) → x.grant ≡ g → Comes Step (checked s x (step_checks s x g) (step_by s p g x))
-  unfolding begin
-  step_comes (Some g) e = checked_comes Step (step_checks s x (Some g)) (serve s g x) (λ _. serve_moves g e)
-  step_comes None e = checked_comes Step (step_checks s x None) (begin s p x)
-      (λ h. begin_moves x.listed refl e (ltb-true x.clock.used s.limit h.1.0) (eqb-true x.hold 0 h.1.1.0) h.1.1.1.0)
+  step_comes (Some g) e = checked_comes Step (step_checks s x (Some g)) (serve s g x) (λ h. unretired x h.0) (λ _. serve_moves g e)
+  step_comes None e = checked_comes Step (step_checks s x None) (begin s p x) (λ h. unretired x h.0)
+      (λ h. begin_moves e (ltb-true x.clock.used s.limit h.1.0) (eqb-true x.hold 0 h.1.1.0) h.1.1.1.0)
 
   running_comes : (c : Call) → Comes c (running_call s x p c)
-  unfolding fetch
   running_comes (Configure n) = refused
-  running_comes (Arrive b n t) = checked_comes (Arrive b n t) (arrive_checks b n x) (arrive s b n t x) (λ h. arrive_moves b n t (ltb-true b (length x.bearers) h.1.0))
+  running_comes (Arrive b n t) = checked_comes (Arrive b n t) (arrive_checks b n x) (arrive s b n t x) (λ h. unretired x h.0)
+      (λ h. arrive_moves b n t (ltb-true b (length x.bearers) h.1.0))
   running_comes Step = step_comes x.grant refl
-  running_comes (Work c) = checked_comes (Work c) (work_checks s c x) (work s c x)
+  running_comes (Work c) = checked_comes (Work c) (work_checks s c x) (work s c x) (λ h. unretired x h.0)
       (λ h. worked (leb-true (x.clock.elapsed + c) s.period h.1.1.0))
-  running_comes Fetch = checked_comes Fetch (fetch_checks x) (fetch s x) (λ h. fetch_moves x.queue refl h.0)
-  running_comes (Finish n) = checked_comes (Finish n) (out_checks n x) (finish n x) (λ h. finished h.0)
-  running_comes (Discard n) = checked_comes (Discard n) (out_checks n x) (discard n x) (λ h. discarded h.0)
-  running_comes Tell = checked_comes Tell [] (tell x) (λ _. told)
+  running_comes Fetch = checked_comes Fetch (fetch_checks x) (fetch s x) (λ h. ltb-true (length x.out) 16 h.1.0) (λ h. fetch_moves h.0)
+  running_comes (Finish n) = checked_comes (Finish n) (out_checks n x) (finish n x) (λ _. tt) (λ h. finished h.0)
+  running_comes (Discard n) = checked_comes (Discard n) (out_checks n x) (discard n x) (λ _. tt) (λ h. discarded h.0)
+  running_comes Tell = checked_comes Tell [] (tell x) (λ _. tt) (λ _. told)
 
 module _ (p : Batches) (bs : List Bearer) where
   configure_comes : (s : RawSettings) (o : Option Refusal) → first_refusal (configure_checks p s bs) ≡ o →

@@ -1,5 +1,5 @@
 -- One place: where the answers are true to the ledger, each number given stands in one place of it.
-use Rattle.std.proofs.Common.{◌≡◌, ℕ, zero, suc, ◌+◌, ◌<◌, Bool, true, false, cond, List, [], ◌∷◌, ◌++◌, length, take, drop, Some, None, Option, Ok, Err, Result, ◌==◌, nat_lt, get_or, set, refl, arith}
+use Rattle.std.proofs.Common.{◌≡◌, ℕ, zero, suc, ◌+◌, ◌<◌, Bool, true, false, cond, List, [], ◌∷◌, ◌++◌, length, take, drop, Some, None, Option, Ok, Err, Result, nat_lt, get_or, set, refl, arith}
 use Rattle.std.proofs.lemmas.List.Sums.{sum_by-set, sum_by-cons}
 use Rattle.std.proofs.lemmas.List.Folds.{sum_by-replicate}
 use Rattle.machine.specs.declared.answers.Answer.{Answer}
@@ -14,8 +14,8 @@ use Rattle.machine.specs.Ledger.{Ledger, column, nothing, arrives, taken_from, h
 use Rattle.machine.specs.Laws.{Always, TrueAnswer, Truly, times_in_all, places, OnePlace}
 use Rattle.machine.proofs.Pushed.{told_keeps}
 use Rattle.machine.proofs.Agreement.{true_answers}
-use Rattle.machine.specs.Numbers.{holds, without, times}
-use Rattle.machine.proofs.Basics.{times-append}
+use Rattle.machine.specs.Numbers.{holds, times}
+use Rattle.machine.proofs.Basics.{times-append, times-without}
 
 -- the front of a column leaves it; of one column among all; and a number that is out leaves
 front_off : (n : ℕ) (c : List ℕ) → times n (drop 1 c) + times n (take 1 c) ≡ times n c
@@ -27,10 +27,6 @@ front_off_all : (n : ℕ) (cs : List (List ℕ)) (b : ℕ) →
 front_off_all n [] b = refl
 front_off_all n (c ∷ cs) zero = omega (arith, front_off n c, sum_by-cons (times n))
 front_off_all n (c ∷ cs) (suc b) = omega (arith, front_off_all n cs b, sum_by-cons (times n))
-
-out_without : (n m : ℕ) (c : List ℕ) → holds m c ≡ true → times n (without m c) + cond (m == n) 1 0 ≡ times n c
-out_without n m [] h = cc
-out_without n m (k ∷ c) h = grind (arith, out_without n m c)
 
 -- each number below the next stands once in the columns, and no other
 abbrev pub Placed : Ledger → Type 0
@@ -51,7 +47,7 @@ module _ (l : Ledger) (s : Placed l) where
   placed_handed n = grind (arith, s n, front_off, times-append)
 
   placed_spent : (finished : Bool) (m : ℕ) → holds m l.columns.out ≡ true → Placed (record l { columns = spent finished m l.columns })
-  placed_spent finished m h n = grind (arith, s n, out_without n m l.columns.out h, times-append)
+  placed_spent finished m h n = grind (arith, s n, times-without n m l.columns.out h, times-append)
 
   placed_stepped : (did : Option Progress) → Placed (stepped did l)
   placed_stepped None = s

@@ -74,7 +74,7 @@ refused_same : (p : Batches) (t u : State) (c : Call) (r : Result Answer Refusal
 refused_same _ _ _ _ _ _ refused e = refl
 refused_same _ _ _ _ _ _ asked_idle e = refl
 refused_same _ _ _ _ _ _ (configured ranges empty share) e = cc e
-refused_same _ _ _ _ _ _ (moved m) e = cc e
+refused_same _ _ _ _ _ _ (moved m _) e = cc e
 
 pub refusals_leave : Always RefusalsLeave
 refusals_leave p _ bs cs before after e r h a =

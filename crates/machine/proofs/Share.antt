@@ -71,13 +71,13 @@ module _ (p : Batches) (start : List Bearer) where
   cheap_changed bs b f e i c = on_changed (λ v. v.cost ≤ highest_cost start) bs b c f (omega (arith, i b)) (i c)
 
   -- of a running receiver: what bearers have used and the grant may still use is below the limit and the grant bound
-  record Funded (s : RawSettings) (f : ℕ → ℕ) (bs : List Bearer) (k : Clock) (g : Option Grant) : Type 0 where
-    accounts : Accounts s (s.limit + grant_bound p start) f k (due g)
-    few : due g ≤ p.greatest * price
-    cheap : Cheap bs
-    some : s.limit + grant_bound p start ≤ s.period
+  pub record Funded (s : RawSettings) (f : ℕ → ℕ) (bs : List Bearer) (k : Clock) (g : Option Grant) : Type 0 where
+    pub accounts : Accounts s (s.limit + grant_bound p start) f k (due g)
+    pub few : due g ≤ p.greatest * price
+    pub cheap : Cheap bs
+    pub some : s.limit + grant_bound p start ≤ s.period
 
-  abbrev FundedCore : RawSettings → (ℕ → ℕ) → Core → Type 0
+  abbrev pub FundedCore : RawSettings → (ℕ → ℕ) → Core → Type 0
   FundedCore s f x = Funded s f x.bearers x.clock x.grant
 
   -- x is left with the bearers bs and the grant g
@@ -114,7 +114,7 @@ module _ (p : Batches) (start : List Bearer) where
     one_fewer : (g : Grant) (m : ℕ) → x.grant ≡ Some g → (g.left ≡ 0 → ⊥) → m ≤ g.left - 1 → m * price + price ≤ due x.grant
     one_fewer g m e some less = omega (arith, ap due e, mul-le-mul_right {m = m + 1} {n = g.left} price (omega (arith, some, less)))
 
-    move_funded : (c : Call) (a : Answer) (y : Core) → Move s p x c a y → Booked f x.clock (cycles_of c) h → FundedCore s h y
+    pub move_funded : (c : Call) (a : Answer) (y : Core) → Move s p x c a y → Booked f x.clock (cycles_of c) h → FundedCore s h y
     move_funded _ _ _ (stored {b = b} {n = size} {t = tag} l r e) n =
         kept x i n _ x.grant (cheap_changed x.bearers b (behind (next_packet size tag x)) refl i.cheap) (omega arith)
     move_funded _ _ _ (signalled {b = b} {n = size} {t = tag} l r e) n =
@@ -142,7 +142,7 @@ module _ (p : Batches) (start : List Bearer) where
     }
     move_funded _ _ _ _ n = kept x i n x.bearers x.grant i.cheap (omega arith)
 
-  fresh_funded : (s : RawSettings) (f : ℕ → ℕ) (bs : List Bearer) → bs ≡ start → s.limit + grant_bound p bs ≤ s.period → ((j : ℕ) → f j ≡ 0) →
+  pub fresh_funded : (s : RawSettings) (f : ℕ → ℕ) (bs : List Bearer) → bs ≡ start → s.limit + grant_bound p bs ≤ s.period → ((j : ℕ) → f j ≡ 0) →
       FundedCore s f (fresh bs)
   fresh_funded s f bs e some none = record {
     accounts = record {
@@ -159,7 +159,7 @@ module _ (p : Batches) (start : List Bearer) where
     some = subst (λ ks. s.limit + grant_bound p ks ≤ s.period) e some;
   }
 
-  gate_funded : (s : RawSettings) (f : ℕ → ℕ) (x y : Core) → FundedCore s f y → FundedCore s f (set_gate s x y)
+  pub gate_funded : (s : RawSettings) (f : ℕ → ℕ) (x y : Core) → FundedCore s f y → FundedCore s f (set_gate s x y)
   gate_funded s f x y i =
       let u : Unmoved y (set_gate s x y) = gate_unmoved s x y in
       record {
@@ -181,7 +181,7 @@ module _ (p : Batches) (start : List Bearer) where
   keeps_fair bounded es _ _ _ _ t i (configured {bs = bs} {s = s} _ _ some) = fresh_funded s _ bs i.0 some (still_none es _ refl i.1)
   keeps_fair bounded es _ _ c r t i (refused {t = running s x}) =
       kept x i (booked es s x c r (running s x)) x.bearers x.grant i.cheap (omega arith)
-  keeps_fair bounded es _ _ _ _ t i (moved {s = s} {x = x} {y = y} {c = c} {a = a} m) =
+  keeps_fair bounded es _ _ _ _ t i (moved {s = s} {x = x} {y = y} {c = c} {a = a} m _) =
       gate_funded s _ x y (move_funded bounded s _ _ x t i c a y m (booked es s x c (Ok a) (running s (set_gate s x y))))
 
 -- over every list of calls, with all tidy
@@ -210,7 +210,7 @@ told_periods : (p : Batches) (bs : List Bearer) (es : List Entry) (t u : State) 
 told_periods p bs es _ _ _ _ r i refused e = cc e
 told_periods p bs es _ _ _ _ r i asked_idle e = (cc e, cc e)
 told_periods p bs es _ _ _ _ r i (configured _ _ _) e = cc e
-told_periods p bs es _ _ _ _ r i (moved {s = s} {x = x} m) e = by m (cc e)
+told_periods p bs es _ _ _ _ r i (moved {s = s} {x = x} m _) e = by m (cc e)
   where
     by : {c : Call} {a : Answer} {y : Core} → Move s p x c a y → a ≡ Told r → TruePeriods es (running s x) r
     by told e =

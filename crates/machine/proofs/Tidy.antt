@@ -107,7 +107,7 @@ none_waits i [] b h = refl
 none_waits i (x ∷ bs) zero h = none_left x.waiting (not-true (any_waiting x.waiting) h.0)
 none_waits i (x ∷ bs) (suc b) h = none_waits (i + 1) bs b h.1
 
-fresh_tidy : (s : RawSettings) (bs : List Bearer) → Passed (settings_checks s) → Passed (waiting_checks 0 bs) → TidyCore (is_open s (fresh bs)) (fresh bs)
+pub fresh_tidy : (s : RawSettings) (bs : List Bearer) → Passed (settings_checks s) → Passed (waiting_checks 0 bs) → TidyCore (is_open s (fresh bs)) (fresh bs)
 fresh_tidy s bs ranges empty =
     let f : Bearer → Bearer = λ x. after_arm false (after_disarm x) in
     let range : (leb 1 s.limit && leb s.limit s.period) ≡ true = ranges.1.0 in
@@ -123,7 +123,7 @@ pub keeps_tidy : (p : Batches) (t u : State) (c : Call) (r : Result Answer Refus
 keeps_tidy p _ _ _ _ i refused = i
 keeps_tidy p _ _ _ _ i asked_idle = tt
 keeps_tidy p _ _ _ _ i (configured {bs = bs} {s = s} ranges empty share) = fresh_tidy s bs ranges empty
-keeps_tidy p _ _ _ _ i (moved {s = s} {x = x} {y = y} {c = c} {a = a} m) = gate_tidy s x y (move_tidy s p x i c a y m)
+keeps_tidy p _ _ _ _ i (moved {s = s} {x = x} {y = y} {c = c} {a = a} m _) = gate_tidy s x y (move_tidy s p x i c a y m)
 
 pub tidy_not_deaf : (s : RawSettings) (x : Core) → TidyCore (is_open s x) x → NotDeaf s x
 tidy_not_deaf s x t = record {

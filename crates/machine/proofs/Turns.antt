@@ -66,7 +66,7 @@ module _ (c b : ℕ) where
     call_pays _ _ _ _ i w refused = omega arith
     call_pays _ _ _ _ i w asked_idle = omega arith
     call_pays _ _ _ _ i w (configured ranges empty share) = omega arith
-    call_pays _ _ _ _ i w (moved {s = s} {x = x} {y = y} {c = k} {a = a} m) =
+    call_pays _ _ _ _ i w (moved {s = s} {x = x} {y = y} {c = k} {a = a} m _) =
         let u = gate_unmoved s x y in omega (arith, move_pays s x y k a i w m, ap slack u.listed, slack-append y.listed u.joined)
 
     -- over a stretch of a trace

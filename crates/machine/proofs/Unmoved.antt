@@ -94,7 +94,7 @@ module _ (x : Core) where
 
   pub unmoved_opened : Unmoved x (open_gate x)
   unfolding open_gate
-  unmoved_opened = on_each_keeps (Unmoved x) open_bearer unmoved_open 0 (length x.bearers) x unmoved_same
+  unmoved_opened = on_each_keeps (Unmoved x) open_bearer 0 (length x.bearers) (λ b y _ u. unmoved_open b y u) x unmoved_same
 
   unmoved_shut : Unmoved x (shut_gate x)
   unfolding shut_gate
