@@ -5,6 +5,7 @@ use Rattle.board.specs.declared.packets.Packet.{Packet}
 use Rattle.board.specs.Bearers.{Bearer, bearer_of}
 use Rattle.machine.specs.declared.answers.Answer.{Answer}
 use Rattle.machine.specs.declared.answers.Answer.TheVariants.{Configured, Arrived, Worked, Fetched, Finished, Discarded, Told, Stepped}
+use Rattle.machine.specs.declared.answers.Counts.{Counts}
 use Rattle.machine.specs.declared.answers.Period.{Period}
 use Rattle.machine.specs.declared.answers.Progress.{Progress}
 use Rattle.machine.specs.declared.answers.Progress.TheVariants.{Begun, Taken}
@@ -248,3 +249,21 @@ BoundedBatches p bs es =
 -- QUIET BETWEEN CALLS. Once configured, after every call every signal is down.
 abbrev pub Quiet : Law
 Quiet p bs es = Throughout (idle bs) es (λ _ t. OnceRunning t (λ s x. (b : ℕ) → (bearer_of x.bearers b).signal ≡ false))
+
+-- the packets that are somewhere: those that wait, are queued or are out, and those that were delivered or dropped
+abbrev pub accounted : List Bearer → List Packet → List ℕ → Counts → ℕ
+accounted bs q o n =
+    sum_by (λ (v : Bearer). length v.waiting) bs + length q + length o + n.delivered + n.bearer_full + n.queue_full + n.discarded
+
+-- BOUNDED MEMORY. Once configured, after every call, the poll list has no more entries than the board shows bearers, the queue no more than S packets, and
+-- at most sixteen numbers are out; the packets numbered are those that are somewhere, and they and the periods closed are at most 1,000,000,000.
+pub record Within (s : RawSettings) (x : Core) : Type 0 where
+  pub listed : length x.listed ≤ length x.bearers
+  pub queue : length x.queue ≤ s.size
+  pub out : length x.out ≤ 16
+  pub counted : accounted x.bearers x.queue x.out x.counts ≡ x.counts.numbered
+  pub numbered : x.counts.numbered ≤ 1000000000
+  pub closed : x.clock.closed ≤ 1000000000
+
+abbrev pub BoundedMemory : Law
+BoundedMemory p bs es = Throughout (idle bs) es (λ _ t. OnceRunning t Within)

@@ -1,6 +1,6 @@
 ghost use Rattle.machine.specs.Edges.{edges};
 ghost use Rattle.machine.specs.Examples.{replayed, standard_board, four, examples};
-ghost use Rattle.machine.specs.Laws.{Always, ArrivalOrder, BoundedBatches, EqualTurns, LedgerAgrees, NeverDeaf, OnePlace, OneWay, Quiet, RefusalsLeave, Share, TrueAnswers, TrueRecords};
+ghost use Rattle.machine.specs.Laws.{Always, ArrivalOrder, BoundedBatches, BoundedMemory, EqualTurns, LedgerAgrees, NeverDeaf, OnePlace, OneWay, Quiet, RefusalsLeave, Share, TrueAnswers, TrueRecords};
 ghost use Rattle.machine.specs.Settings.{grant_bound};
 ghost use Rattle.machine.specs.Sharp.{Sometimes, ShareMet};
 ghost use Rattle.machine.specs.State.{idle};
@@ -20,6 +20,7 @@ pub fn laws()
     ensures equal_turns { Always EqualTurns }
     ensures bounded_batches { Always BoundedBatches }
     ensures quiet { Always Quiet }
+    ensures bounded_memory { Always BoundedMemory }
 {}
 
 /// Carries in its contract what runs of the state machine come to: the worked examples, and one run that meets the bound of

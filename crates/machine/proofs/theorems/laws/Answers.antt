@@ -2,6 +2,7 @@ use Rattle.machine.proofs.Agreement.{ledger_agrees, true_answers}
 use Rattle.machine.proofs.Batches.{bounded_batches}
 use Rattle.machine.proofs.Order.{arrival_order}
 use Rattle.machine.proofs.Places.{one_place}
+use Rattle.machine.proofs.Room.{bounded_memory}
 use Rattle.machine.proofs.Runs.{refusals_leave}
 use Rattle.machine.proofs.Share.{share, true_records}
 use Rattle.machine.proofs.Tidy.{never_deaf, one_way, quiet}
@@ -43,3 +44,6 @@ returns-clause-bounded_batches c = bounded_batches
 
 pub returns-clause-quiet : goal.returns-clause-quiet
 returns-clause-quiet c = quiet
+
+pub returns-clause-bounded_memory : goal.returns-clause-bounded_memory
+returns-clause-bounded_memory c = bounded_memory
