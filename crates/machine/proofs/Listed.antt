@@ -64,14 +64,14 @@ OnlyShown x = (b : ℕ) → length x.bearers ≤ b → turns x.listed x.grant b 
 
 module _ (s : RawSettings) (p : Batches) (x : Core) where
   pub move_shown : OnlyShown x → (c : Call) (a : Answer) (y : Core) → Move s p x c a y → OnlyShown y
-  move_shown h _ _ _ (stored {b = b} l r e) = λ c i. h c (omega (arith, length-set {A = Bearer}))
-  move_shown h _ _ _ (signalled {b = b} l r e) = λ c i.
+  move_shown h _ _ _ (stored l r e) = λ c i. h c (omega (arith, length-set {A = Bearer}))
+  move_shown h _ _ _ (signalled l r e) = λ c i.
       let k : length x.bearers ≤ c = omega (arith, length-set {A = Bearer}) in grind (arith, h c k, times-append)
-  move_shown h _ _ _ (begun {b = b} e i u z) = λ c k. omega (arith, h c k, ap (times c) i)
-  move_shown h _ _ _ (emptied {g = g} e w) = λ c i. let k : length x.bearers ≤ c = omega (arith, length-set {A = Bearer}) in grind (arith, h c k)
-  move_shown h _ _ _ (taken {g = g} e w n less r) = λ c i. let k : length x.bearers ≤ c = omega (arith, length-set {A = Bearer}) in grind (arith, h c k)
-  move_shown h _ _ _ (rescheduled {g = g} e) = λ c i. grind (arith, h c i, times-append)
-  move_shown h _ _ _ (completed {g = g} {o = o} e w r) = λ c. cond_both o _ _ (λ (bs : List Bearer). length bs ≤ c → turns x.listed None c ≡ 0)
+  move_shown h _ _ _ (begun e i u z) = λ c k. omega (arith, h c k, ap (times c) i)
+  move_shown h _ _ _ (emptied e w) = λ c i. let k : length x.bearers ≤ c = omega (arith, length-set {A = Bearer}) in grind (arith, h c k)
+  move_shown h _ _ _ (taken e w n less r) = λ c i. let k : length x.bearers ≤ c = omega (arith, length-set {A = Bearer}) in grind (arith, h c k)
+  move_shown h _ _ _ (rescheduled e) = λ c i. grind (arith, h c i, times-append)
+  move_shown h _ _ _ (completed {o = o} e w r) = λ c. cond_both o _ _ (λ (bs : List Bearer). length bs ≤ c → turns x.listed None c ≡ 0)
       (λ _ i. let k : length x.bearers ≤ c = omega (arith, length-set {A = Bearer}) in omega (arith, h c k))
       (λ _ i. omega (arith, h c i))
   move_shown h _ _ _ _ = h

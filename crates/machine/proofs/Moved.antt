@@ -107,7 +107,7 @@ pub data Happens (p : Batches) : State → Call → Result Answer Refusal → St
   moved : {s : RawSettings} {x y : Core} {c : Call} {a : Answer} → Move s p x c a y → Allowed x c → Happens p (running s x) c (Ok a) (running s (set_gate s x y))
 
 module _ (s : RawSettings) (p : Batches) (x : Core) where
-  abbrev Moves : Call → Answer × Core → Type 0
+  abbrev pub Moves : Call → Answer × Core → Type 0
   Moves c r = Move s p x c r.0 r.1
 
   pub arrive_moves : (b n t : ℕ) → b < length x.bearers → Moves (Arrive b n t) (arrive s b n t x)
