@@ -250,13 +250,13 @@ BoundedBatches p bs es =
 abbrev pub Quiet : Law
 Quiet p bs es = Throughout (idle bs) es (λ _ t. OnceRunning t (λ s x. (b : ℕ) → (bearer_of x.bearers b).signal ≡ false))
 
--- the packets that are somewhere: those that wait, are queued or are out, and those that were delivered or dropped
+-- how many packets are somewhere: those that wait, are queued or are out, and those counted as delivered or dropped
 abbrev pub accounted : List Bearer → List Packet → List ℕ → Counts → ℕ
 accounted bs q o n =
     sum_by (λ (v : Bearer). length v.waiting) bs + length q + length o + n.delivered + n.bearer_full + n.queue_full + n.discarded
 
 -- BOUNDED MEMORY. Once configured, after every call, the poll list has no more entries than the board shows bearers, the queue no more than S packets, and
--- at most sixteen numbers are out; the packets numbered are those that are somewhere, and they and the periods closed are at most 1,000,000,000.
+-- at most sixteen numbers are out; as many packets are numbered as are somewhere; and at most 1,000,000,000 are numbered, and as many periods closed.
 pub record Within (s : RawSettings) (x : Core) : Type 0 where
   pub listed : length x.listed ≤ length x.bearers
   pub queue : length x.queue ≤ s.size
