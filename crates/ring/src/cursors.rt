@@ -2,7 +2,7 @@ ghost use Rattle.std.specs.Prelude.{◌≡◌, ◌<◌, min, false, [], ◌∷�
 ghost use Rattle.std.specs.List.{slice_get};
 ghost use Rattle.ring.specs.Queue.{turned_place, elements, any_free};
 
-/// Where a queue lies in its slots, whosever they are.
+/// Where a queue lies in its slots, whosever they are. Taken with the slots, it is the queue.
 ///
 /// It has no invariant: `head` and `len` mean something whatever they are, and however many slots there are.
 #[derive(Clone, Copy)]
@@ -14,14 +14,14 @@ pub(crate) struct Cursor {
 }
 
 impl Cursor {
-    /// Of a queue that holds nothing.
+    /// That of a queue that holds nothing.
     pub(crate) fn empty() -> Cursor
         ensures value { result ≡ record { head = 0; len = 0 } }
     {
         Cursor { head: 0, len: 0 }
     }
 
-    /// How many elements the slots hold.
+    /// How many elements the queue holds.
     #[tactic(auto, using(crate::proofs::Turned::how_many))]
     pub(crate) fn len<T>(self, slots: &[T]) -> usize
         ensures value { result ≡ length (elements slots.now self) }
@@ -48,7 +48,6 @@ impl Cursor {
         ensures value { result ≡ (if any_free slots.old self.old then Ok tt else Err element) }
         ensures after { elements slots.new self.new ≡ (if any_free slots.old self.old then elements slots.old self.old ++ element ∷ [] else elements slots.old self.old) }
         ensures same { any_free slots.old self.old ≡ false → (slots.new ≡ slots.old) × (self.new ≡ self.old) }
-        ensures room { length slots.new ≡ length slots.old }
     {
         let len = self.len(slots);
         if len == slots.len() {

@@ -65,6 +65,7 @@ impl<'a, T: Copy, const MOST: usize> Ring<'a, T, MOST> {
         ensures after { held self.new ≡ drop 1 (held self.old) }
         ensures same { self.new.slots ≡ self.old.slots }
     {
+        // A copy moves on while the slots are read: both lie behind `self`.
         let mut cursor = self.cursor;
         let oldest = cursor.pop(self.usable());
         self.cursor = cursor;
