@@ -102,7 +102,7 @@ module _ (s : RawSettings) (p : Batches) (x : Core) (t : TidyCore (is_open s x) 
   move_tidy _ _ _ _ = t
 
 -- a receiver just configured: nothing waits, all are armed, and the gate is open
-none_waits : (i : ℕ) (bs : List Bearer) (b : ℕ) → Passed (waiting_checks i bs) → waits bs b ≡ []
+pub none_waits : (i : ℕ) (bs : List Bearer) (b : ℕ) → Passed (waiting_checks i bs) → waits bs b ≡ []
 none_waits i [] b h = refl
 none_waits i (x ∷ bs) zero h = none_left x.waiting (not-true (any_waiting x.waiting) h.0)
 none_waits i (x ∷ bs) (suc b) h = none_waits (i + 1) bs b h.1

@@ -1,0 +1,9 @@
+pub mod Armed
+pub mod Called
+pub mod Configured
+pub mod Each
+pub mod Listed
+pub mod Roomy
+pub mod Sizes
+pub mod Surveys
+pub mod Unconfigured

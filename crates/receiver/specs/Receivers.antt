@@ -1,0 +1,29 @@
+-- What a receiver shows of itself, and what a call makes of it.
+use Rattle.std.specs.Prelude.{ℕ, Result}
+use Rattle.std.specs.Result.{result_map_both}
+use Rattle.machine.specs.declared.answers.Answer.{Answer}
+use Rattle.machine.specs.declared.calls.Call.{Call}
+use Rattle.machine.specs.declared.refusals.Refusal.{Refusal}
+use Rattle.machine.specs.State.{State, Batches}
+use Rattle.machine.specs.Machine.{call}
+
+-- its policy as it is, and all else as the state machine holds it
+pub record Receiving (P : Type 0) : Type 0 where
+  pub policy : P
+  pub state : State
+
+-- what a policy means, by its quotas and its greatest batch
+abbrev pub batches : (ℕ → ℕ → ℕ) → ℕ → Batches
+batches quotas greatest = record { quota = quotas; greatest = greatest }
+
+-- what the state machine answers to a call
+abbrev pub answer_to : {P : Type 0} → Batches → Call → Receiving P → Result Answer Refusal
+answer_to p c r = (call p c r.state).0
+
+-- the receiver after it: the state is the machine's, and the policy as it was
+abbrev pub after : {P : Type 0} → Batches → Call → Receiving P → Receiving P
+after p c r = record r { state = (call p c r.state).1 }
+
+-- a result of a call's own, as one of all answers
+abbrev pub answered : {R : Type 0} → (R → Answer) → Result R Refusal → Result Answer Refusal
+answered as_answer = result_map_both as_answer (λ r. r)

@@ -1,0 +1,6 @@
+-- Settings as the plain numbers that they were made from, and what passes a list of checks.
+use Rattle.machine.specs.declared.calls.RawSettings.{RawSettings}
+use Rattle.receiver.specs.declared.settings.Settings.{Settings}
+
+abbrev pub raw : Settings → RawSettings
+raw s = record { period = s.period; limit = s.limit; size = s.size; high = s.high; low = s.low; hold = s.hold }

@@ -1,0 +1,92 @@
+ghost use Rattle.std.specs.Prelude.{◌≡◌};
+ghost use Rattle.machine.specs.declared.answers.Answer.TheVariants.{Told};
+ghost use Rattle.machine.specs.Calls.{tell};
+ghost use Rattle.receiver.specs.Empty.{empty_over};
+
+use crate::clocks::{Clock, Grant};
+use arrayvec::ArrayVec;
+use board::{Board, Packet};
+use machine::{Counts, Report};
+use ring::Queue;
+use std::marker::Model;
+
+/// All that a receiver holds beside its policy and its settings.
+#[derive(Drop)]
+pub struct Core<B: Board> {
+    pub board: B,
+    pub clock: Clock,
+    /// Periods until polling goes on; 0 is no hold.
+    pub hold: u64,
+    /// The poll list.
+    pub listed: Queue<usize, 8>,
+    pub grant: Option<Grant>,
+    /// Packets for the application.
+    pub queue: Queue<Packet, 64>,
+    /// The numbers of packets fetched, and not yet finished or discarded.
+    pub out: ArrayVec<u32, 16>,
+    pub counts: Counts,
+}
+
+impl<B: Board> Model for Core<B> {
+    ghost use Rattle.machine.specs.State.{Core as Held};
+    ghost use Rattle.receiver.specs.Held.{clock_of, grant_held};
+
+    ghost Value = { Held };
+
+    ghost view = { λ c.
+        record {
+          bearers = B.bearers c.board;
+          clock = clock_of c.clock;
+          hold = c.hold;
+          listed = c.listed;
+          grant = grant_held c.grant;
+          queue = c.queue;
+          out = c.out.items;
+          counts = c.counts;
+        } };
+}
+
+impl<B: Board> Core<B> {
+    /// Nothing, over a board.
+    pub fn new(board: B) -> Self
+        ensures value { result ≡ empty_over (B.bearers board) }
+    {
+        Core {
+            board,
+            clock: Clock {
+                elapsed: 0,
+                used: 0,
+                offered: 0,
+                closed: 0,
+                last: None,
+            },
+            hold: 0,
+            listed: Queue::new(0),
+            grant: None,
+            queue: Queue::new(Packet {
+                number: 0,
+                length: 0,
+                tag: 0,
+            }),
+            out: ArrayVec::new(),
+            counts: Counts {
+                numbered: 0,
+                delivered: 0,
+                bearer_full: 0,
+                queue_full: 0,
+                discarded: 0,
+            },
+        }
+    }
+
+    /// Every count, the periods closed, and the record of the last.
+    pub fn tell(&self) -> Report
+        ensures value { Told result ≡ (tell self.now).0 }
+    {
+        Report {
+            counts: self.counts,
+            closed: self.clock.closed,
+            last: self.clock.last,
+        }
+    }
+}

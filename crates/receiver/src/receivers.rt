@@ -1,0 +1,160 @@
+ghost use Rattle.std.specs.Prelude.{◌≡◌, false, Ok, IfOk, IfErr};
+ghost use Rattle.std.specs.Result.{result_map_both};
+ghost use Rattle.machine.specs.State.{idle};
+ghost use Rattle.machine.specs.declared.answers.Answer.TheVariants.{Configured, Arrived, Stepped, Worked, Fetched, Finished, Discarded, Told};
+ghost use Rattle.machine.specs.declared.calls.Call.TheVariants.{Configure, Arrive, Step, Work, Fetch, Finish, Discard, Tell};
+ghost use Rattle.receiver.specs.Receivers.{batches, answer_to, after, answered};
+
+use crate::cores::Core;
+use crate::receipts::{Receipt, Unspent};
+use crate::settings::Settings;
+use board::{Board, Packet};
+use machine::{Arrival, Progress, RawSettings, Refusal, Report};
+use policy::Policy;
+use std::marker::Model;
+
+/// The receive side of a node: a board, a batch policy, and all that polling takes, in memory of its own.
+#[derive(Drop)]
+pub struct Receiver<B: Board, P: Policy> {
+    core: Core<B>,
+    policy: P,
+    /// Until it is configured there are none, and the core is empty.
+    settings: Option<Settings>,
+}
+
+impl<B: Board, P: Policy> Model for Receiver<B, P> {
+    ghost use Rattle.receiver.specs.Receivers.{Receiving, batches};
+    ghost use Rattle.receiver.specs.Sound.{state_of, Sound};
+
+    ghost Value = { Receiving P };
+
+    ghost view = { λ r. record { policy = r.policy; state = state_of r.settings r.core } };
+
+    ghost invariant = { λ r. Sound (batches (P.quotas r.policy) P.GREATEST) r.settings r.core };
+}
+
+impl<B: Board, P: Policy> Receiver<B, P> {
+    /// Puts up a receiver over a board and a policy: nothing is in it, and its gate is shut.
+    pub fn new(board: B, policy: P) -> Self
+        ensures value { result ≡ record { policy = policy; state = idle (B.bearers board) } }
+    {
+        Receiver {
+            core: Core::new(board),
+            policy,
+            settings: None,
+        }
+    }
+
+    /// Configures the receiver, once.
+    pub fn configure(&mut self, numbers: RawSettings) -> Result<(), Refusal>
+        ensures value { answered (λ _. Configured) result ≡ answer_to (batches (P.quotas self.old.policy) P.GREATEST) (Configure numbers) self.old }
+        ensures after { self.new ≡ after (batches (P.quotas self.old.policy) P.GREATEST) (Configure numbers) self.old }
+    {
+        if self.settings.is_some() {
+            return Err(Refusal::AlreadyConfigured);
+        }
+        let settings = match Settings::new(numbers) {
+            Ok(settings) => settings,
+            Err(setting) => return Err(Refusal::BadSetting(setting)),
+        };
+        self.core.check_waiting()?;
+        self.core.check_share(&settings, P::GREATEST)?;
+        self.core.rearm();
+        self.settings = Some(settings);
+        Ok(())
+    }
+
+    /// Numbers a packet and offers it to its bearer.
+    pub fn arrive(&mut self, bearer: usize, length: usize, tag: u32) -> Result<Arrival, Refusal>
+        ensures value { answered Arrived result ≡ answer_to (batches (P.quotas self.old.policy) P.GREATEST) (Arrive bearer length tag) self.old }
+        ensures after { self.new ≡ after (batches (P.quotas self.old.policy) P.GREATEST) (Arrive bearer length tag) self.old }
+    {
+        let Some(settings) = self.settings else {
+            return Err(Refusal::NotConfigured);
+        };
+        self.core.check_arrive(bearer, length)?;
+        let was_open = self.core.is_open(&settings);
+        let arrival = self.core.arrive(&settings, bearer, length, tag);
+        self.core.set_gate(&settings, was_open);
+        Ok(arrival)
+    }
+
+    /// Goes on with the polling: begins a grant, takes a packet by it, or closes it.
+    pub fn step(&mut self) -> Result<Progress, Refusal>
+        ensures value { answered Stepped result ≡ answer_to (batches (P.quotas self.old.policy) P.GREATEST) Step self.old }
+        ensures after { self.new ≡ after (batches (P.quotas self.old.policy) P.GREATEST) Step self.old }
+    {
+        let Some(settings) = self.settings else {
+            return Err(Refusal::NotConfigured);
+        };
+        self.core.check_step(&settings)?;
+        let was_open = self.core.is_open(&settings);
+        let progress = self.core.step(&settings, &self.policy);
+        self.core.set_gate(&settings, was_open);
+        Ok(progress)
+    }
+
+    /// Offers cycles to the application.
+    pub fn work(&mut self, cycles: u64) -> Result<(), Refusal>
+        ensures value { answered (λ _. Worked) result ≡ answer_to (batches (P.quotas self.old.policy) P.GREATEST) (Work cycles) self.old }
+        ensures after { self.new ≡ after (batches (P.quotas self.old.policy) P.GREATEST) (Work cycles) self.old }
+    {
+        let Some(settings) = self.settings else {
+            return Err(Refusal::NotConfigured);
+        };
+        self.core.check_work(&settings, cycles)?;
+        let was_open = self.core.is_open(&settings);
+        self.core.offer_cycles(&settings, cycles);
+        self.core.set_gate(&settings, was_open);
+        Ok(())
+    }
+
+    /// Hands over the queue's first packet, and its receipt.
+    pub fn fetch(&mut self) -> Result<(Packet, Receipt), Refusal>
+        ensures value { answered (λ r. Fetched r.0) result ≡ answer_to (batches (P.quotas self.old.policy) P.GREATEST) Fetch self.old }
+        ensures receipt { IfOk result (λ r. r.1 ≡ record { number = r.0.number; spent = false }) }
+        ensures after { self.new ≡ after (batches (P.quotas self.old.policy) P.GREATEST) Fetch self.old }
+    {
+        let Some(settings) = self.settings else {
+            return Err(Refusal::NotConfigured);
+        };
+        self.core.check_fetch()?;
+        let was_open = self.core.is_open(&settings);
+        let packet = self.core.fetch(&settings);
+        self.core.set_gate(&settings, was_open);
+        Ok((packet, Receipt::of(packet)))
+    }
+
+    /// Spends a receipt: its packet is delivered.
+    pub fn finish(&mut self, receipt: Receipt) -> Result<(), Unspent>
+        ensures value { result_map_both (λ _. Finished) (λ u. u.refusal) result ≡ answer_to (batches (P.quotas self.old.policy) P.GREATEST) (Finish receipt.number) self.old }
+        ensures receipt { IfErr result (λ u. u.receipt ≡ receipt) }
+        ensures after { self.new ≡ after (batches (P.quotas self.old.policy) P.GREATEST) (Finish receipt.number) self.old }
+    {
+        if let Err(refusal) = self.core.finish(receipt.number()) {
+            return Err(Unspent { refusal, receipt });
+        }
+        receipt.spend();
+        Ok(())
+    }
+
+    /// Spends a receipt: its packet is dropped, as discarded.
+    pub fn discard(&mut self, receipt: Receipt) -> Result<(), Unspent>
+        ensures value { result_map_both (λ _. Discarded) (λ u. u.refusal) result ≡ answer_to (batches (P.quotas self.old.policy) P.GREATEST) (Discard receipt.number) self.old }
+        ensures receipt { IfErr result (λ u. u.receipt ≡ receipt) }
+        ensures after { self.new ≡ after (batches (P.quotas self.old.policy) P.GREATEST) (Discard receipt.number) self.old }
+    {
+        if let Err(refusal) = self.core.discard(receipt.number()) {
+            return Err(Unspent { refusal, receipt });
+        }
+        receipt.spend();
+        Ok(())
+    }
+
+    /// Reads every count, the periods closed, and the record of the last.
+    pub fn tell(&self) -> Report
+        ensures value { Ok (Told result) ≡ answer_to (batches (P.quotas self.now.policy) P.GREATEST) Tell self.now }
+    {
+        self.core.tell()
+    }
+}
