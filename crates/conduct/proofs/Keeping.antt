@@ -1,0 +1,36 @@
+-- The calls of a list that are made keep each law that always holds; and what is out then is what the ledger says.
+use Rattle.std.proofs.Common.{◌≡◌, ℕ, ◌≤◌, List, [], ◌∷◌, map, refl, sym, ap, ◌∙◌}
+use Rattle.board.specs.Bearers.{Bearer}
+use Rattle.machine.specs.declared.calls.Call.{Call}
+use Rattle.machine.specs.State.{State, idle, running, Batches}
+use Rattle.machine.specs.Ledger.{Ledger, ledger, depths_of}
+use Rattle.machine.specs.Laws.{Bounded, Always, Law}
+use Rattle.machine.proofs.Runs.{at_end}
+use Rattle.machine.proofs.Agreement.{TallyState, Agreeing, starts_agreeing, keeps_agreeing}
+use Rattle.receiver.specs.declared.receipts.Receipt.{Receipt}
+use Rattle.receiver.specs.Receivers.{batches}
+use Rattle.conduct.specs.Lists.{made, conducted, left, out_of, unspent, receipts_of, Keeps}
+
+-- a policy whose quotas are in its bounds
+pub bounded : {quotas : ℕ → ℕ → ℕ} {greatest : ℕ} → ((b w : ℕ) → (1 ≤ quotas b w) × (quotas b w ≤ greatest)) → (1 ≤ greatest) × (greatest ≤ 64) →
+    Bounded (batches quotas greatest)
+bounded each range = record { least = λ b w. (each b w).0; most = λ b w. (each b w).1; small = range.1 }
+
+-- the receipts of what is out have its numbers
+numbered : (ns : List ℕ) → map (λ (r : Receipt). r.number) (map unspent ns) ≡ ns
+numbered [] = refl
+numbered (n ∷ ns) = ap (λ ms. n ∷ ms) (numbered ns)
+
+module _ (p : Batches) (bs : List Bearer) (cs : List Call) where
+  pub keeps : (law : Law) → Always law → Bounded p → Keeps law p bs cs
+  keeps law always b = always p b bs (made p (idle bs) cs)
+
+  pub ledger_out : map (λ (r : Receipt). r.number) (receipts_of (left p (idle bs) cs)) ≡ (ledger bs (conducted p (idle bs) cs)).columns.out
+  ledger_out =
+      numbered (out_of (left p (idle bs) cs))
+      ∙ by (left p (idle bs) cs) (ledger bs (conducted p (idle bs) cs))
+      (at_end p (Agreeing p bs) (keeps_agreeing p bs) (idle bs) (starts_agreeing p bs) (made p (idle bs) cs))
+    where
+      by : (t : State) (l : Ledger) → TallyState (depths_of bs) t l → out_of t ≡ l.columns.out
+      by (idle vs) l a = ap (λ (k : Ledger). k.columns.out) (sym a.0)
+      by (running s x) l a = a.out

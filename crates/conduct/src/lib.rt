@@ -1,0 +1,11 @@
+//! A list of calls made on a receiver, whole: every reply, the receiver, and the receipts still held.
+#![tactic(auto)]
+
+mod held;
+mod lists;
+mod replies;
+#[cfg(test)]
+mod tests;
+
+pub use lists::{Conducted, NoMemory, conduct};
+pub use replies::Reply;

@@ -1,0 +1,130 @@
+ghost use Rattle.std.specs.Prelude.{◌≡◌, ◌≤◌, map, IfOk, IfErr, OnOk, vec_capacity};
+ghost use Rattle.machine.specs.Laws.{ArrivalOrder, BoundedBatches, EqualTurns, LedgerAgrees, NeverDeaf, OnePlace, OneWay, Quiet, RefusalsLeave, Share, TrueAnswers, TrueRecords};
+ghost use Rattle.machine.specs.Ledger.{ledger};
+ghost use Rattle.machine.specs.State.{idle};
+ghost use Rattle.receiver.specs.Receivers.{batches};
+ghost use Rattle.receiver.specs.declared.receipts.Receipt.{Receipt};
+ghost use Rattle.conduct.specs.Lists.{Keeps, after_turn, conducted, left, receipts_of, replies_to, reply_to};
+
+use crate::held::take;
+use crate::replies::Reply;
+use board::Board;
+use machine::{Answer, Call};
+use policy::Policy;
+use receiver::{Receipt, Receiver};
+use std::alloc::Global;
+
+/// No more packets are out than this.
+const MOST_OUT: usize = 16;
+
+/// What a list of calls left.
+pub struct Conducted<B: Board, P: Policy> {
+    /// The reply to each call of the list.
+    pub replies: Vec<Reply>,
+    pub receiver: Receiver<B, P>,
+    /// The receipts of what is out, in the order of the fetches.
+    pub receipts: Vec<Receipt>,
+}
+
+/// There was no memory, and no call was made.
+pub struct NoMemory<B: Board, P: Policy> {
+    pub board: B,
+    pub policy: P,
+}
+
+/// Makes one call of a list, with the receipts that are held.
+#[tactic(auto, using(crate::proofs::Out::leaving))]
+fn make<B: Board, P: Policy>(
+    receiver: &mut Receiver<B, P>,
+    receipts: &mut Vec<Receipt>,
+    call: Call,
+) -> Reply
+    requires held { receipts.old.items ≡ receipts_of receiver.old.state }
+    requires room { MOST_OUT ≤ vec_capacity receipts.old }
+    ensures value { result ≡ reply_to (batches (P.quotas receiver.old.policy) P.GREATEST) call receiver.old.state }
+    ensures after { receiver.new ≡ record receiver.old { state = after_turn (batches (P.quotas receiver.old.policy) P.GREATEST) call receiver.old.state } }
+    ensures held { receipts.new.items ≡ receipts_of receiver.new.state }
+    ensures room { MOST_OUT ≤ vec_capacity receipts.new }
+{
+    match call {
+        Call::Configure(settings) => receiver
+            .configure(settings)
+            .map(|()| Answer::Configured)
+            .into(),
+        Call::Arrive {
+            bearer,
+            length,
+            tag,
+        } => receiver
+            .arrive(bearer, length, tag)
+            .map(Answer::Arrived)
+            .into(),
+        Call::Step => receiver.step().map(Answer::Stepped).into(),
+        Call::Work(cycles) => receiver.work(cycles).map(|()| Answer::Worked).into(),
+        Call::Fetch => match receiver.fetch() {
+            Ok((packet, receipt)) => {
+                receipts.push_reserved(receipt);
+                Reply::Accepted(Answer::Fetched(packet))
+            }
+            Err(refusal) => Reply::Refused(refusal),
+        },
+        Call::Finish(number) => {
+            let Some(receipt) = take(receipts, number) else {
+                return Reply::NoReceipt;
+            };
+            // Not refused: a number of which a receipt is held is out.
+            receiver.finish(receipt).unwrap();
+            Reply::Accepted(Answer::Finished)
+        }
+        Call::Discard(number) => {
+            let Some(receipt) = take(receipts, number) else {
+                return Reply::NoReceipt;
+            };
+            receiver.discard(receipt).unwrap();
+            Reply::Accepted(Answer::Discarded)
+        }
+        Call::Tell => Reply::Accepted(Answer::Told(receiver.tell())),
+    }
+}
+
+/// Makes a list of calls on a receiver that it puts up over a board and a policy.
+pub fn conduct<B: Board, P: Policy>(
+    alloc: Global,
+    board: B,
+    policy: P,
+    calls: &[Call],
+) -> Result<Conducted<B, P>, NoMemory<B, P>>
+    ensures replies { IfOk result (λ d. d.replies.items ≡ replies_to (batches (P.quotas policy) P.GREATEST) (idle (B.bearers board)) calls.now) }
+    ensures receiver { IfOk result (λ d. d.receiver ≡ record { policy = policy; state = left (batches (P.quotas policy) P.GREATEST) (idle (B.bearers board)) calls.now }) }
+    ensures receipts { IfOk result (λ d. d.receipts.items ≡ receipts_of d.receiver.state) }
+    ensures out { IfOk result (λ d. map (λ (r : Receipt). r.number) d.receipts.items ≡ (ledger (B.bearers board) (conducted (batches (P.quotas policy) P.GREATEST) (idle (B.bearers board)) calls.now)).columns.out) }
+    ensures no_memory { IfErr result (λ e. e ≡ record { board = board; policy = policy }) }
+    ensures refusals_leave { OnOk result (Keeps RefusalsLeave (batches (P.quotas policy) P.GREATEST) (B.bearers board) calls.now) }
+    ensures share { OnOk result (Keeps Share (batches (P.quotas policy) P.GREATEST) (B.bearers board) calls.now) }
+    ensures true_records { OnOk result (Keeps TrueRecords (batches (P.quotas policy) P.GREATEST) (B.bearers board) calls.now) }
+    ensures ledger_agrees { OnOk result (Keeps LedgerAgrees (batches (P.quotas policy) P.GREATEST) (B.bearers board) calls.now) }
+    ensures true_answers { OnOk result (Keeps TrueAnswers (batches (P.quotas policy) P.GREATEST) (B.bearers board) calls.now) }
+    ensures one_place { OnOk result (Keeps OnePlace (batches (P.quotas policy) P.GREATEST) (B.bearers board) calls.now) }
+    ensures arrival_order { OnOk result (Keeps ArrivalOrder (batches (P.quotas policy) P.GREATEST) (B.bearers board) calls.now) }
+    ensures never_deaf { OnOk result (Keeps NeverDeaf (batches (P.quotas policy) P.GREATEST) (B.bearers board) calls.now) }
+    ensures one_way { OnOk result (Keeps OneWay (batches (P.quotas policy) P.GREATEST) (B.bearers board) calls.now) }
+    ensures equal_turns { OnOk result (Keeps EqualTurns (batches (P.quotas policy) P.GREATEST) (B.bearers board) calls.now) }
+    ensures bounded_batches { OnOk result (Keeps BoundedBatches (batches (P.quotas policy) P.GREATEST) (B.bearers board) calls.now) }
+    ensures quiet { OnOk result (Keeps Quiet (batches (P.quotas policy) P.GREATEST) (B.bearers board) calls.now) }
+{
+    let Ok(mut replies) = Vec::with_capacity(alloc, calls.len()) else {
+        return Err(NoMemory { board, policy });
+    };
+    let Ok(mut receipts) = Vec::with_capacity(alloc, MOST_OUT) else {
+        return Err(NoMemory { board, policy });
+    };
+    let mut receiver = Receiver::new(board, policy);
+    for call in calls {
+        replies.push_reserved(make(&mut receiver, &mut receipts, *call));
+    }
+    Ok(Conducted {
+        replies,
+        receiver,
+        receipts,
+    })
+}
