@@ -1,0 +1,5 @@
+pub mod Comments
+pub mod Counted
+pub mod Numerals
+pub mod Names
+pub mod Lines

@@ -1,0 +1,50 @@
+-- What the further lines of a text mean, one line on.
+use Rattle.std.proofs.Common.{◌≡◌, ℕ, ◌+◌, ◌<◌, List, [], ◌∷◌, ◌++◌, length, get_or, drop, map, Bor, Some, None, Ok, Err, Option, Result, sym, refl, ap, ◌∙◌, append_assoc, append-nil, arith}
+use Rattle.std.proofs.lemmas.List.{at_drop_more, at_drop_all}
+use Rattle.std.proofs.lemmas.List.FromFn.{length-enumerate_from, get_or-enumerate_from}
+use Rattle.std.specs.List.{enumerate_from}
+use Rattle.machine.specs.declared.calls.Call.{Call}
+use Rattle.script.specs.declared.faults.Fault.{Fault}
+use Rattle.script.specs.Words.{words}
+use Rattle.script.specs.Calls.{asked}
+use Rattle.script.specs.Script.{Meaning, ahead, and_then, from_line}
+
+ahead_more : (cs : List Call) (c : Call) (m : Meaning) → ahead (cs ++ c ∷ []) m ≡ ahead cs (ahead (c ∷ []) m)
+ahead_more cs c (Ok ds) = ap {B = Meaning} Ok (append_assoc cs (c ∷ []) ds)
+ahead_more cs c (Err u) = refl
+
+-- the item at hand is the next line, with how many lines stand before it
+pub turned : (ls : List (List ℕ)) (k i : ℕ) (l : List ℕ) → (k < length (enumerate_from 0 ls)) × ((i, l) ≡ get_or (enumerate_from 0 ls) k (i, l)) → (k < length ls) × (i ≡ k) × (l ≡ get_or ls k l)
+turned ls k i l t =
+    let within : k < length ls = omega (arith, t.0, length-enumerate_from 0 ls) in
+    let e : (i, l) ≡ (0 + k, get_or ls k l) = t.1 ∙ get_or-enumerate_from 0 ls k (i, l) within in
+    (within, omega (arith, ap (λ p. p.0) e), ap (λ p. p.1) e)
+
+-- the words of a line, as they are passed on
+pub asking : (ws vs : List (Bor (List ℕ))) (l : List ℕ) (r q : Result (Option Call) Fault) → r ≡ asked (map (λ w. w.now) ws) → ws ≡ vs → map (λ w. w.now) vs ≡ words l → r ≡ q → asked (words l) ≡ q
+asking ws vs l r q a b c d = sym (a ∙ ap (λ x. asked (map (λ w. w.now) x)) b ∙ ap asked c) ∙ d
+
+-- One turn of the loop: m is what the whole text means, cs are the calls read so far, and ls are its lines, of which k are read.
+module _ (m : Meaning) (cs : List Call) (ls : List (List ℕ)) (k : ℕ) (h : m ≡ ahead cs (from_line (k + 1) (drop k ls))) where
+  pub all_read : length ls ≡ k → m ≡ Ok cs
+  all_read e = h ∙ ap (ahead cs) (at_drop_all (from_line (k + 1)) ls k (omega (arith, e))) ∙ ap {B = Meaning} Ok (append-nil cs)
+
+  -- the line at k, and what it asks for
+  module _ (l : List ℕ) (within : k < length ls) (here : l ≡ get_or ls k l) where
+    one_line : from_line (k + 1) (drop k ls) ≡ and_then (k + 1) (asked (words l)) (from_line (k + 1 + 1) (drop (k + 1) ls))
+    one_line =
+        at_drop_more (from_line (k + 1)) ls k l within
+        ∙ ap (λ x. and_then (k + 1) (asked (words x)) (from_line (k + 1 + 1) (drop (k + 1) ls))) (sym here)
+
+    -- what the line asks for stands before what the lines behind it mean
+    stands : (a : Result (Option Call) Fault) → asked (words l) ≡ a → m ≡ ahead cs (and_then (k + 1) a (from_line (k + 1 + 1) (drop (k + 1) ls)))
+    stands a e = h ∙ ap (ahead cs) (one_line ∙ ap (λ x. and_then (k + 1) x (from_line (k + 1 + 1) (drop (k + 1) ls))) e)
+
+    pub refused : (f : Fault) → asked (words l) ≡ Err f → m ≡ Err (record { line = k + 1; fault = f })
+    refused f e = stands (Err f) e
+
+    pub no_call : asked (words l) ≡ Ok None → m ≡ ahead cs (from_line (k + 1 + 1) (drop (k + 1) ls))
+    no_call e = stands (Ok None) e
+
+    pub one_call : (c : Call) → asked (words l) ≡ Ok (Some c) → m ≡ ahead (cs ++ c ∷ []) (from_line (k + 1 + 1) (drop (k + 1) ls))
+    one_call c e = stands (Ok (Some c)) e ∙ sym (ahead_more cs c (from_line (k + 1 + 1) (drop (k + 1) ls)))

@@ -1,0 +1,63 @@
+ghost use Rattle.std.specs.Prelude.{◌≡◌};
+ghost use Rattle.script.specs.declared.faults.ReadError.TheVariants as error;
+
+use std::alloc::{AllocError, AllocFailed};
+use std::fmt;
+
+/// What is wrong with a line.
+#[derive(Clone, Copy, PartialEq, Eq, Debug)]
+pub enum Fault {
+    /// The first word is that of no call.
+    UnknownCall,
+    /// The call takes so many numbers, and the line has more or fewer.
+    WrongCount { wanted: usize },
+    /// A word where a number should stand is not digits alone.
+    NotANumber,
+    /// A number is larger than the call takes.
+    TooLarge,
+}
+
+/// What is wrong, in words.
+impl fmt::Display for Fault {
+    fn fmt<W: fmt::Write>(&self, f: &mut fmt::Formatter<W>) -> fmt::Result {
+        match *self {
+            Fault::UnknownCall => f.write_str("no call has this name"),
+            Fault::WrongCount { wanted: 0 } => f.write_str("this call takes no numbers"),
+            Fault::WrongCount { wanted: 1 } => f.write_str("this call takes 1 number"),
+            Fault::WrongCount { wanted } => write!(f, "this call takes {wanted} numbers"),
+            Fault::NotANumber => f.write_str("a number is decimal digits and nothing else"),
+            Fault::TooLarge => f.write_str("a number is too large"),
+        }
+    }
+}
+
+/// The first line that cannot be read.
+#[derive(Clone, Copy, PartialEq, Eq, Debug)]
+pub struct Unread {
+    /// The line's number, counted from 1.
+    pub line: usize,
+    pub fault: Fault,
+}
+
+/// Why no calls came: a line cannot be read, or memory ran out, which says nothing of the text.
+#[derive(Clone, Copy, PartialEq, Eq, Debug)]
+pub enum ReadError {
+    Unread(Unread),
+    NoMemory,
+}
+
+impl From<AllocError> for ReadError {
+    ghost from_gives = { λ _ r. r ≡ error.NoMemory };
+
+    fn from(_e: AllocError) -> ReadError {
+        ReadError::NoMemory
+    }
+}
+
+impl<T: Drop> From<AllocFailed<T>> for ReadError {
+    ghost from_gives = { λ _ r. r ≡ error.NoMemory };
+
+    fn from(_e: AllocFailed<T>) -> ReadError {
+        ReadError::NoMemory
+    }
+}
