@@ -4,8 +4,8 @@ use Rattle.machine.specs.declared.calls.Call.{Call}
 use Rattle.machine.specs.declared.calls.Call.TheVariants as a
 use Rattle.script.specs.declared.faults.Fault.{Fault}
 use Rattle.script.specs.declared.faults.Fault.TheVariants.{UnknownCall}
-use Rattle.script.specs.declared.sentences.Name.{Name}
-use Rattle.script.specs.declared.sentences.Name.TheVariants.{Configure, Arrive, Step, Work, Fetch, Finish, Discard, Tell}
+use Rattle.script.specs.declared.calls.Name.{Name}
+use Rattle.script.specs.declared.calls.Name.TheVariants.{Configure, Arrive, Step, Work, Fetch, Finish, Discard, Tell}
 use Rattle.script.specs.Numbers.{below, exactly}
 
 abbrev pub spelling : Name → List ℕ

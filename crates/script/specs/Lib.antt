@@ -1,5 +1,7 @@
+pub mod Answers
 pub mod Calls
 pub mod Numbers
+pub mod Refusals
 pub mod Script
 pub mod Told
 pub mod Words

@@ -1,8 +1,8 @@
 ghost use Rattle.script.specs.Script.{meaning};
 ghost use Rattle.script.specs.Told.{Tells};
 
+use crate::calls::asked;
 use crate::faults::{ReadError, Unread};
-use crate::sentences::asked;
 use crate::words::words;
 use machine::Call;
 use std::alloc::Global;

@@ -2,7 +2,6 @@ ghost use Rattle.std.specs.Prelude.{◌≡◌};
 ghost use Rattle.script.specs.declared.faults.ReadError.TheVariants as error;
 
 use std::alloc::{AllocError, AllocFailed};
-use std::fmt;
 
 /// What is wrong with a line.
 #[derive(Clone, Copy, PartialEq, Eq, Debug)]
@@ -15,20 +14,6 @@ pub enum Fault {
     NotANumber,
     /// A number is larger than the call takes.
     TooLarge,
-}
-
-/// What is wrong, in words.
-impl fmt::Display for Fault {
-    fn fmt<W: fmt::Write>(&self, f: &mut fmt::Formatter<W>) -> fmt::Result {
-        match *self {
-            Fault::UnknownCall => f.write_str("no call has this name"),
-            Fault::WrongCount { wanted: 0 } => f.write_str("this call takes no numbers"),
-            Fault::WrongCount { wanted: 1 } => f.write_str("this call takes 1 number"),
-            Fault::WrongCount { wanted } => write!(f, "this call takes {wanted} numbers"),
-            Fault::NotANumber => f.write_str("a number is decimal digits and nothing else"),
-            Fault::TooLarge => f.write_str("a number is too large"),
-        }
-    }
 }
 
 /// The first line that cannot be read.

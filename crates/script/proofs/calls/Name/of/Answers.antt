@@ -3,7 +3,7 @@ use Rattle.std.proofs.lemmas.Iterator.{YieldsList-from_slice}
 use Rattle.std.proofs.lemmas.Iterator.Search.{find_from_yields_List}
 use Rattle.script.specs.Calls.{spelling, names}
 use Rattle.script.proofs.Names.{copied_is}
-use Rattle.script.proofs.sentences.Name.of.Goals as goal
+use Rattle.script.proofs.calls.Name.of.Goals as goal
 
 pub returns : goal.returns
 returns c =
