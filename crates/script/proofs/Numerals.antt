@@ -13,7 +13,7 @@ use Rattle.script.specs.declared.faults.Fault.{Fault}
 use Rattle.script.specs.declared.faults.Fault.TheVariants.{NotANumber, TooLarge}
 use Rattle.script.specs.Numbers.{below, is_number, number}
 
-digits : IsNumeralModel (λ ds. list_all is_ascii_digit ds ≡ true) (digits_value 10)
+pub digits : IsNumeralModel (λ ds. list_all is_ascii_digit ds ≡ true) (digits_value 10)
 digits = numerals_by_value _ (search rules)
 
 -- of a word that is not empty, only the digits are asked
@@ -25,7 +25,7 @@ all_digits : (w : List ℕ) → is_number w ≡ true → (0 < length w) × (list
 all_digits [] h = absurd (false≢true h)
 all_digits (c ∷ cs) h = (omega arith, h)
 
-pub number_utf8 : (w : List ℕ) → is_number w ≡ true → IsUtf8 w
+number_utf8 : (w : List ℕ) → is_number w ≡ true → IsUtf8 w
 number_utf8 w h = IsUtf8-from_ascii w (IsAscii-from_digits w (digits.to w ((all_digits w h).1)))
 
 -- what is not text is no number
@@ -35,14 +35,14 @@ no_text w h = elim (is_number w) as (λ b. is_number w ≡ b → b ≡ false) [ 
 pub no_number : (w : List ℕ) → is_number w ≡ false → number w ≡ Err NotANumber
 no_number w h = rw h
 
-less : (bound n : ℕ) → n < bound → below bound n ≡ Ok n
+pub less : (bound n : ℕ) → n < bound → below bound n ≡ Ok n
 less bound n h = grind (arith, nat_tests)
 
 more : (bound n : ℕ) → bound ≤ n → below bound n ≡ Err TooLarge
 more bound n h = grind (arith, nat_tests)
 
 -- what `parse` answers for a number's digits
-pub parsed : {E : Type 0} (w : List ℕ) (r : Result ℕ E) → is_number w ≡ true → ParsesUnsigned 64 10 w r → MatchResult r (λ n. number w ≡ Ok n) (λ e. number w ≡ Err TooLarge)
+parsed : {E : Type 0} (w : List ℕ) (r : Result ℕ E) → is_number w ≡ true → ParsesUnsigned 64 10 w r → MatchResult r (λ n. number w ≡ Ok n) (λ e. number w ≡ Err TooLarge)
 parsed {E} w (Ok n) h p =
     let ds = all_digits w h in
     let q : ((0 < length w) × (digits_value 10 w < 2 ^ 64)) × (n ≡ digits_value 10 w) = parse_digits digits {E = E} 64 w (Ok n) p ds.1 in

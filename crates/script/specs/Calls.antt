@@ -1,7 +1,7 @@
 -- The call that the words of a line ask for.
 use Rattle.std.specs.Prelude.{ℕ, ◌^◌, List, [], ◌∷◌, Some, None, Ok, Err, Option, Result, bytes_eq, codes, find, slice_index}
 use Rattle.machine.specs.declared.calls.Call.{Call}
-use Rattle.machine.specs.declared.calls.Call.TheVariants as a
+use Rattle.machine.specs.declared.calls.Call.TheVariants as calls
 use Rattle.script.specs.declared.faults.Fault.{Fault}
 use Rattle.script.specs.declared.faults.Fault.TheVariants.{UnknownCall}
 use Rattle.script.specs.declared.calls.Name.{Name}
@@ -36,7 +36,7 @@ tried f (Err fault) = Err fault
 
 abbrev pub configure : List ℕ → Call
 configure ns =
-    a.Configure (record {
+    calls.Configure (record {
       period = slice_index ns 0;
       limit = slice_index ns 1;
       size = slice_index ns 2;
@@ -49,7 +49,7 @@ abbrev pub narrow : ℕ → Result ℕ Fault
 narrow n = below (2 ^ 32) n
 
 abbrev pub arrive : List ℕ → Result Call Fault
-arrive ns = made (a.Arrive (slice_index ns 0) (slice_index ns 1)) (narrow (slice_index ns 2))
+arrive ns = made (calls.Arrive (slice_index ns 0) (slice_index ns 1)) (narrow (slice_index ns 2))
 
 abbrev pub receipt : (ℕ → Call) → List ℕ → Result Call Fault
 receipt f ns = made f (narrow (slice_index ns 0))
@@ -58,12 +58,12 @@ receipt f ns = made f (narrow (slice_index ns 0))
 abbrev pub call : Name → List (List ℕ) → Result Call Fault
 call Configure words = made configure (exactly 6 words)
 call Arrive words = tried arrive (exactly 3 words)
-call Step words = made (λ ns. a.Step) (exactly 0 words)
-call Work words = made (λ ns. a.Work (slice_index ns 0)) (exactly 1 words)
-call Fetch words = made (λ ns. a.Fetch) (exactly 0 words)
-call Finish words = tried (receipt a.Finish) (exactly 1 words)
-call Discard words = tried (receipt a.Discard) (exactly 1 words)
-call Tell words = made (λ ns. a.Tell) (exactly 0 words)
+call Step words = made (λ ns. calls.Step) (exactly 0 words)
+call Work words = made (λ ns. calls.Work (slice_index ns 0)) (exactly 1 words)
+call Fetch words = made (λ ns. calls.Fetch) (exactly 0 words)
+call Finish words = tried (receipt calls.Finish) (exactly 1 words)
+call Discard words = tried (receipt calls.Discard) (exactly 1 words)
+call Tell words = made (λ ns. calls.Tell) (exactly 0 words)
 
 abbrev pub named : Option Name → List (List ℕ) → Result Call Fault
 named None words = Err UnknownCall

@@ -5,3 +5,4 @@ pub mod Refusals
 pub mod Script
 pub mod Told
 pub mod Words
+pub mod Writing

@@ -1,12 +1,14 @@
-use Rattle.std.proofs.Common.{rules, tests, ◌≡◌, ◌<◌, length, get_or, eqb, Some, None, Ok, Err, Option, Result, ap, sym, ◌∙◌}
+use Rattle.std.proofs.Common.{rules, tests, ◌≡◌, ◌+◌, ◌<◌, length, get_or, eqb, Some, None, Ok, Err, Option, Result, ap, sym, ◌∙◌}
 use Rattle.std.proofs.lemmas.Iterator.Consumers.{YieldsList-turn, YieldsList-end, YieldsList-at, YieldsList-from_enumerate}
 use Rattle.std.proofs.lemmas.Iterator.Splits.{YieldsList-from_slice_split}
 use Rattle.std.proofs.lemmas.List.{length_push}
 use Rattle.std.proofs.lemmas.List.FromFn.{length-enumerate_from}
 use Rattle.machine.specs.declared.calls.Call.{Call}
 use Rattle.script.specs.declared.faults.Fault.{Fault}
+use Rattle.script.specs.declared.faults.ReadError.TheVariants.{Unread}
 use Rattle.script.specs.Words.{lines, words}
 use Rattle.script.specs.Calls.{asked}
+use Rattle.script.proofs.ReadsBack.{answers}
 use Rattle.script.proofs.Lines.{all_read, asking, turned, refused, no_call, one_call}
 use Rattle.script.proofs.entry.read.Goals.{In-Some, After-asked}
 use Rattle.script.proofs.entry.read.Goals as goal
@@ -30,7 +32,8 @@ pub returns-in-Err : goal.returns-in-Err
 returns-in-Err c =
     let t = turn (goal.at.returns-in-Err c).In-Some in
     let a = asks (goal.at.returns-in-Err c).After-asked (Err c.in-Err.fault) c.in-Err.is in
-    record { value = rw t.1 (refused _ _ (lines c.args.text.now) _ c.loop-index.invariant c.in-Some.line.now t.0 t.2 c.in-Err.fault a) }
+    answers c.args.text.now (Err (Unread (record { line = c.in-Some.index + 1; fault = c.in-Err.fault })))
+    (rw t.1 (refused _ _ (lines c.args.text.now) _ c.loop-index.invariant c.in-Some.line.now t.0 t.2 c.in-Err.fault a))
 
 pub loop-index-preserved : goal.loop-index-preserved
 loop-index-preserved c =
@@ -55,4 +58,5 @@ returns c =
     (YieldsList-from_slice_split _ (λ b. eqb b 10) c.args.text.now c.split.ensures.rest c.split.ensures.done c.split.ensures.closure (λ x b q k. search (rules, tests))))
     (cc))
     c.loop-index.yielded _ c.loop-index.yielded_by _ _ c.in-None.is c.next.ensures.steps in
-    record { value = all_read _ _ (lines c.args.text.now) _ c.loop-index.invariant (sym (length-enumerate_from 0 (lines c.args.text.now)) ∙ sym e.1) }
+    answers c.args.text.now (Ok c.loop-index.calls)
+    (all_read _ _ (lines c.args.text.now) _ c.loop-index.invariant (sym (length-enumerate_from 0 (lines c.args.text.now)) ∙ sym e.1))
