@@ -6,7 +6,7 @@ use crate::numbers::{narrow, numbers};
 use machine::{Call, RawSettings};
 
 /// The name of a call, which is the first word of its line.
-#[derive(Clone, Copy, PartialEq, Eq, Debug)]
+#[derive(Clone, Copy)]
 pub(crate) enum Name {
     Configure,
     Arrive,
@@ -48,6 +48,7 @@ impl Name {
     fn of(word: &[u8]) -> Option<Name>
         ensures value { result ≡ name_of word.now }
     {
+        // Not a match: of an arm of bytes the check knows the length alone.
         NAMES
             .iter()
             .find(|name| name.text().as_bytes() == word)
