@@ -1,10 +1,10 @@
 -- Where a line's comment begins.
-use Rattle.std.proofs.Common.{◌≡◌, ℕ, Bool, cond, ltb, List, length, take, Some, None, Option, arith}
+use Rattle.std.proofs.Common.{◌≡◌, ℕ, Bool, List, take, Some, None, Option, arith}
 use Rattle.std.proofs.lemmas.Bool.Decides.{nat_tests}
 use Rattle.std.proofs.lemmas.List.{take_all}
-use Rattle.std.specs.List.{before_first, position_or_len}
+use Rattle.std.specs.List.{before_first, position}
 
-module _ (p : ℕ → Bool) (xs : List ℕ) (r : Option ℕ) (h : r ≡ cond (ltb (position_or_len p xs) (length xs)) (Some (position_or_len p xs)) None) where
+module _ (p : ℕ → Bool) (xs : List ℕ) (r : Option ℕ) (h : r ≡ position p xs) where
   pub up_to : (n : ℕ) → r ≡ Some n → take n xs ≡ before_first p xs
   up_to n e = grind (arith, nat_tests)
 

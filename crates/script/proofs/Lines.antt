@@ -13,12 +13,17 @@ ahead_more : (cs : List Call) (c : Call) (m : Meaning) → ahead (cs ++ c ∷ []
 ahead_more cs c (Ok ds) = ap {B = Meaning} Ok (append_assoc cs (c ∷ []) ds)
 ahead_more cs c (Err u) = refl
 
--- the item at hand is the next line, with how many lines stand before it
-pub turned : (ls : List (List ℕ)) (k i : ℕ) (l : List ℕ) → (k < length (enumerate_from 0 ls)) × ((i, l) ≡ get_or (enumerate_from 0 ls) k (i, l)) → (k < length ls) × (i ≡ k) × (l ≡ get_or ls k l)
-turned ls k i l t =
+-- l, at hand with number i, is the line of ls behind the first k
+pub record Next (ls : List (List ℕ)) (k i : ℕ) (l : List ℕ) : Type 0 where
+  pub within : k < length ls
+  pub place : i ≡ k
+  pub here : l ≡ get_or ls k l
+
+pub next_by_item : (ls : List (List ℕ)) (k i : ℕ) (l : List ℕ) → (k < length (enumerate_from 0 ls)) × ((i, l) ≡ get_or (enumerate_from 0 ls) k (i, l)) → Next ls k i l
+next_by_item ls k i l t =
     let within : k < length ls = omega (arith, t.0, length-enumerate_from 0 ls) in
     let e : (i, l) ≡ (0 + k, get_or ls k l) = t.1 ∙ get_or-enumerate_from 0 ls k (i, l) within in
-    (within, omega (arith, ap (λ p. p.0) e), ap (λ p. p.1) e)
+    record { within = within; place = omega (arith, ap (λ p. p.0) e); here = ap (λ p. p.1) e }
 
 -- the words of a line, as they are passed on
 pub asking : (ws vs : List (Bor (List ℕ))) (l : List ℕ) (r q : Result (Option Call) Fault) → r ≡ asked (map (λ w. w.now) ws) → ws ≡ vs → map (λ w. w.now) vs ≡ words l → r ≡ q → asked (words l) ≡ q
@@ -29,19 +34,18 @@ module _ (m : Meaning) (cs : List Call) (ls : List (List ℕ)) (k : ℕ) (h : m 
   pub all_read : length ls ≡ k → m ≡ Ok cs
   all_read e = h ∙ ap (ahead cs) (at_drop_all (from_line (k + 1)) ls k (omega (arith, e))) ∙ ap {B = Meaning} Ok (append-nil cs)
 
-  -- the line at k, and what it asks for
-  module _ (l : List ℕ) (within : k < length ls) (here : l ≡ get_or ls k l) where
+  -- the line at hand, and what it asks for
+  module _ (i : ℕ) (l : List ℕ) (t : Next ls k i l) where
     one_line : from_line (k + 1) (drop k ls) ≡ and_then (k + 1) (asked (words l)) (from_line (k + 1 + 1) (drop (k + 1) ls))
     one_line =
-        at_drop_more (from_line (k + 1)) ls k l within
-        ∙ ap (λ x. and_then (k + 1) (asked (words x)) (from_line (k + 1 + 1) (drop (k + 1) ls))) (sym here)
+        at_drop_more (from_line (k + 1)) ls k l t.within
+        ∙ ap (λ x. and_then (k + 1) (asked (words x)) (from_line (k + 1 + 1) (drop (k + 1) ls))) (sym t.here)
 
-    -- what the line asks for stands before what the lines behind it mean
     stands : (a : Result (Option Call) Fault) → asked (words l) ≡ a → m ≡ ahead cs (and_then (k + 1) a (from_line (k + 1 + 1) (drop (k + 1) ls)))
     stands a e = h ∙ ap (ahead cs) (one_line ∙ ap (λ x. and_then (k + 1) x (from_line (k + 1 + 1) (drop (k + 1) ls))) e)
 
-    pub refused : (f : Fault) → asked (words l) ≡ Err f → m ≡ Err (record { line = k + 1; fault = f })
-    refused f e = stands (Err f) e
+    pub refused : (f : Fault) → asked (words l) ≡ Err f → m ≡ Err (record { line = i + 1; fault = f })
+    refused f e = rw t.place (stands (Err f) e)
 
     pub no_call : asked (words l) ≡ Ok None → m ≡ ahead cs (from_line (k + 1 + 1) (drop (k + 1) ls))
     no_call e = stands (Ok None) e

@@ -1,4 +1,4 @@
-use Rattle.std.proofs.Common.{rules, tests, ◌≡◌, ◌+◌, ◌<◌, length, get_or, eqb, Some, None, Ok, Err, Option, Result, ap, sym, ◌∙◌}
+use Rattle.std.proofs.Common.{rules, tests, ◌≡◌, ◌+◌, length, eqb, Some, None, Ok, Err, Option, Result, ap, sym, ◌∙◌}
 use Rattle.std.proofs.lemmas.Iterator.Consumers.{YieldsList-turn, YieldsList-end, YieldsList-at, YieldsList-from_enumerate}
 use Rattle.std.proofs.lemmas.Iterator.Splits.{YieldsList-from_slice_split}
 use Rattle.std.proofs.lemmas.List.{length_push}
@@ -9,53 +9,54 @@ use Rattle.script.specs.declared.faults.ReadError.TheVariants.{Unread}
 use Rattle.script.specs.Words.{lines, words}
 use Rattle.script.specs.Calls.{asked}
 use Rattle.script.proofs.ReadsBack.{answers}
-use Rattle.script.proofs.Lines.{all_read, asking, turned, refused, no_call, one_call}
+use Rattle.script.proofs.Lines.{Next, all_read, asking, next_by_item, refused, no_call, one_call}
 use Rattle.script.proofs.entry.read.Goals.{In-Some, After-asked}
 use Rattle.script.proofs.entry.read.Goals as goal
 
--- the line at hand is the one behind those that were read
-turn : (c : In-Some) → (length c.loop-index.yielded < length (lines c.args.text.now)) × (c.in-Some.index ≡ length c.loop-index.yielded) × (c.in-Some.line.now ≡ get_or (lines c.args.text.now) (length c.loop-index.yielded) c.in-Some.line.now)
-turn c =
-    turned (lines c.args.text.now) (length c.loop-index.yielded) c.in-Some.index c.in-Some.line.now
+next : (c : In-Some) → Next (lines c.args.text.now) (length c.loop-index.yielded) c.in-Some.index c.in-Some.line.now
+next c =
+    next_by_item (lines c.args.text.now) (length c.loop-index.yielded) c.in-Some.index c.in-Some.line.now
     (YieldsList-turn
     (YieldsList-from_enumerate {s = c.into_iter-index-iterator.result}
     (YieldsList-at {t = c.split.result} (cc)
-    (YieldsList-from_slice_split _ (λ b. eqb b 10) c.args.text.now c.split.ensures.rest c.split.ensures.done c.split.ensures.closure (λ x b q k. search (rules, tests))))
+    (YieldsList-from_slice_split _ (λ b. eqb b 10) c.args.text.now c.split.ensures.rest c.split.ensures.done c.split.ensures.closure
+    (λ x b q k. search (rules, tests))))
     (cc))
     c.loop-index.yielded _ c.loop-index.yielded_by _ _ _ c.in-Some.is c.next.ensures.steps)
 
--- what it asks for
+-- what the line at hand asks for
 asks : (c : After-asked) (q : Result (Option Call) Fault) → c.asked.result ≡ q → asked (words c.in-Some.line.now) ≡ q
 asks c q e = asking _ _ c.in-Some.line.now _ q c.asked.ensures.value c.deref.ensures.value c.in_ok-words.ensures.value e
 
 pub returns-in-Err : goal.returns-in-Err
 returns-in-Err c =
-    let t = turn (goal.at.returns-in-Err c).In-Some in
+    let t = next (goal.at.returns-in-Err c).In-Some in
     let a = asks (goal.at.returns-in-Err c).After-asked (Err c.in-Err.fault) c.in-Err.is in
     answers c.args.text.now (Err (Unread (record { line = c.in-Some.index + 1; fault = c.in-Err.fault })))
-    (rw t.1 (refused _ _ (lines c.args.text.now) _ c.loop-index.invariant c.in-Some.line.now t.0 t.2 c.in-Err.fault a))
+    (refused _ _ (lines c.args.text.now) _ c.loop-index.invariant _ _ t c.in-Err.fault a)
 
 pub loop-index-preserved : goal.loop-index-preserved
 loop-index-preserved c =
-    let t = turn (goal.at.loop-index-preserved c).In-Some in
+    let t = next (goal.at.loop-index-preserved c).In-Some in
     let a = asks (goal.at.loop-index-preserved c).After-asked (Ok None) (c.in-Ok.is ∙ ap Ok c.in_default.is) in
     rw (length_push c.loop-index.yielded (c.in-Some.index, c.in-Some.line))
-    (no_call _ _ (lines c.args.text.now) _ c.loop-index.invariant c.in-Some.line.now t.0 t.2 a)
+    (no_call _ _ (lines c.args.text.now) _ c.loop-index.invariant _ _ t a)
 
 pub loop-index-preserved-in_ok-push : goal.loop-index-preserved-in_ok-push
 loop-index-preserved-in_ok-push c =
-    let t = turn (goal.at.loop-index-preserved-in_ok-push c).In-Some in
+    let t = next (goal.at.loop-index-preserved-in_ok-push c).In-Some in
     let x = c.in-Some-call in
     let a = asks (goal.at.loop-index-preserved-in_ok-push c).After-asked (Ok (Some x.call)) (c.in-Ok.is ∙ ap Ok x.is) in
     rw (length_push c.loop-index.yielded (c.in-Some.index, c.in-Some.line), c.in_ok-push.ensures.items)
-    (one_call _ _ (lines c.args.text.now) _ c.loop-index.invariant c.in-Some.line.now t.0 t.2 x.call a)
+    (one_call _ _ (lines c.args.text.now) _ c.loop-index.invariant _ _ t x.call a)
 
 pub returns : goal.returns
 returns c =
     let e = YieldsList-end
     (YieldsList-from_enumerate {s = c.into_iter-index-iterator.result}
     (YieldsList-at {t = c.split.result} (cc)
-    (YieldsList-from_slice_split _ (λ b. eqb b 10) c.args.text.now c.split.ensures.rest c.split.ensures.done c.split.ensures.closure (λ x b q k. search (rules, tests))))
+    (YieldsList-from_slice_split _ (λ b. eqb b 10) c.args.text.now c.split.ensures.rest c.split.ensures.done c.split.ensures.closure
+    (λ x b q k. search (rules, tests))))
     (cc))
     c.loop-index.yielded _ c.loop-index.yielded_by _ _ c.in-None.is c.next.ensures.steps in
     answers c.args.text.now (Ok c.loop-index.calls)

@@ -9,5 +9,11 @@ pub returns : goal.returns
 returns c =
     let told = without_comment (strip_carriage_return c.args.line.now) in
     record {
-      value = map_from_collect _ c.collect.ensures.ran (YieldsList-from_filter _ is_some_text (YieldsList-at c.filter.ensures.source (YieldsList-from_slice_split _ is_blank told (search rules) c.split.ensures.done c.split.ensures.closure (λ x b q k. search (rules, tests)))) c.filter.ensures.closure (λ x b q k. search (rules, tests)));
+      value =
+          map_from_collect _ c.collect.ensures.ran
+          (YieldsList-from_filter _ is_some_text
+          (YieldsList-at c.filter.ensures.source
+          (YieldsList-from_slice_split _ is_blank told (search rules) c.split.ensures.done c.split.ensures.closure
+          (λ x b q k. search (rules, tests))))
+          c.filter.ensures.closure (λ x b q k. search (rules, tests)));
     }
