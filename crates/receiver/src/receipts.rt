@@ -27,7 +27,17 @@ impl Receipt {
         }
     }
 
-    /// Lets the receipt go.
+    /// The receipt handed back with a refusal.
+    pub(crate) fn refused(self, refusal: Refusal) -> Unspent
+        ensures value { result ≡ record { refusal = refusal; receipt = self } }
+    {
+        Unspent {
+            refusal,
+            receipt: self,
+        }
+    }
+
+    /// Spends the receipt, and lets it go.
     pub(crate) fn spend(mut self) {
         self.spent = true;
     }

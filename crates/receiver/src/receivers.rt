@@ -132,7 +132,7 @@ impl<B: Board, P: Policy> Receiver<B, P> {
         ensures after { self.new ≡ after (batches (P.quotas self.old.policy) P.GREATEST) (Finish receipt.number) self.old }
     {
         if let Err(refusal) = self.core.finish(receipt.number()) {
-            return Err(Unspent { refusal, receipt });
+            return Err(receipt.refused(refusal));
         }
         receipt.spend();
         Ok(())
@@ -145,7 +145,7 @@ impl<B: Board, P: Policy> Receiver<B, P> {
         ensures after { self.new ≡ after (batches (P.quotas self.old.policy) P.GREATEST) (Discard receipt.number) self.old }
     {
         if let Err(refusal) = self.core.discard(receipt.number()) {
-            return Err(Unspent { refusal, receipt });
+            return Err(receipt.refused(refusal));
         }
         receipt.spend();
         Ok(())

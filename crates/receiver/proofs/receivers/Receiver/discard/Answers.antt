@@ -4,6 +4,7 @@ use Rattle.machine.specs.declared.calls.Call.TheVariants.{Discard}
 use Rattle.machine.specs.Calls.{discard}
 use Rattle.machine.specs.Checks.{first_refusal}
 use Rattle.machine.specs.Machine.{call, out_checks}
+use Rattle.receiver.specs.declared.receipts.Unspent.{Unspent}
 use Rattle.receiver.specs.Receivers.{batches}
 use Rattle.receiver.specs.Sound.{state_of}
 use Rattle.receiver.proofs.Called.{Comes, answers, shows}
@@ -12,7 +13,7 @@ use Rattle.receiver.proofs.receivers.Receiver.discard.Given as given
 use Rattle.receiver.proofs.receivers.Receiver.discard.Goals as goal
 
 -- a receipt whose number is not out
-refused : (g : given.Over) (c : goal.In-Err g) →
+refused : (g : given.Over) (c : goal.After-refused g) →
     Comes (batches (g.P.Policy.quotas c.self.inside.policy) g.P.Policy.GREATEST) (Discard c.args.receipt.number) (state_of c.self.inside.settings c.self.inside.core) (Err c.in-Err.refusal) (state_of c.self.inside.settings c.self.inside.core)
 unfolding call
 refused g c =
@@ -20,7 +21,9 @@ refused g c =
     (ap result_err (sym c.in-Err.is) ∙ c.discard.ensures.value ∙ ap (λ (k : ℕ). first_refusal (out_checks k c.self.inside.core)) c.number.ensures.value)
 
 pub returns-in-Err-clause-value : goal.returns-in-Err-clause-value
-returns-in-Err-clause-value g c = answers g.P.Policy.quotas g.P.Policy.GREATEST c.self.inside.policy c.self.inside.core c.self.view_is {q = c.self.inside.settings} refl (Discard c.args.receipt.number) (refused g c)
+returns-in-Err-clause-value g c =
+    ap (λ (u : Unspent). Err u.refusal) c.refused.ensures.value
+    ∙ answers g.P.Policy.quotas g.P.Policy.GREATEST c.self.inside.policy c.self.inside.core c.self.view_is {q = c.self.inside.settings} refl (Discard c.args.receipt.number) (refused g c)
 
 pub returns-in-Err-clause-after : goal.returns-in-Err-clause-after
 returns-in-Err-clause-after g c = shows g.P.Policy.quotas g.P.Policy.GREATEST c.self.inside.policy c.self.inside.core c.self.view_is {q = c.self.inside.settings} refl (Discard c.args.receipt.number) (refused g c) (ap (state_of c.self.inside.settings) c.in-Err.ensures.same)
