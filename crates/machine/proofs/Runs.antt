@@ -70,7 +70,7 @@ if_running Q f (idle bs) q = tt
 if_running Q f (running s x) q = f s x q
 
 -- a refused call leaves all as it was
-refused_same : (p : Batches) (t u : State) (c : Call) (r : Result Answer Refusal) (q : Refusal) → Happens p t c r u → r ≡ Err q → u ≡ t
+pub refused_same : (p : Batches) (t u : State) (c : Call) (r : Result Answer Refusal) (q : Refusal) → Happens p t c r u → r ≡ Err q → u ≡ t
 refused_same _ _ _ _ _ _ refused e = refl
 refused_same _ _ _ _ _ _ asked_idle e = refl
 refused_same _ _ _ _ _ _ (configured ranges empty share) e = cc e
