@@ -9,7 +9,7 @@ use Rattle.machine.proofs.Runs.{at_end}
 use Rattle.machine.proofs.Agreement.{TallyState, Agreeing, starts_agreeing, keeps_agreeing}
 use Rattle.receiver.specs.declared.receipts.Receipt.{Receipt}
 use Rattle.receiver.specs.Receivers.{batches}
-use Rattle.conduct.specs.Lists.{made, conducted, left, out_of, unspent, receipts_of, Keeps}
+use Rattle.conduct.specs.Lists.{after_list, conducted, made, out_of, unspent, receipts_of, Keeps}
 
 -- a policy whose quotas are in its bounds
 pub bounded : {quotas : ℕ → ℕ → ℕ} {greatest : ℕ} → ((b w : ℕ) → (1 ≤ quotas b w) × (quotas b w ≤ greatest)) → (1 ≤ greatest) × (greatest ≤ 64) →
@@ -25,10 +25,10 @@ module _ (p : Batches) (bs : List Bearer) (cs : List Call) where
   pub keeps : (law : Law) → Always law → Bounded p → Keeps law p bs cs
   keeps law always b = always p b bs (made p (idle bs) cs)
 
-  pub ledger_out : map (λ (r : Receipt). r.number) (receipts_of (left p (idle bs) cs)) ≡ (ledger bs (conducted p (idle bs) cs)).columns.out
+  pub ledger_out : map (λ (r : Receipt). r.number) (receipts_of (after_list p (idle bs) cs)) ≡ (ledger bs (conducted p (idle bs) cs)).columns.out
   ledger_out =
-      numbered (out_of (left p (idle bs) cs))
-      ∙ by (left p (idle bs) cs) (ledger bs (conducted p (idle bs) cs))
+      numbered (out_of (after_list p (idle bs) cs))
+      ∙ by (after_list p (idle bs) cs) (ledger bs (conducted p (idle bs) cs))
       (at_end p (Agreeing p bs) (keeps_agreeing p bs) (idle bs) (starts_agreeing p bs) (made p (idle bs) cs))
     where
       by : (t : State) (l : Ledger) → TallyState (depths_of bs) t l → out_of t ≡ l.columns.out

@@ -1,3 +1,4 @@
 pub mod Keeping
 pub mod Out
 pub mod Places
+pub mod Sweeping

@@ -1,8 +1,8 @@
 -- What is out after a call, and when a call of finish, discard or fetch finds what it needs.
 use Rattle.std.proofs.Common.{◌≡◌, ℕ, ◌<◌, Bool, true, false, cond, List, [], ◌∷◌, ◌++◌, map, length, Some, None, Option, Ok, Err, Result, refl, sym, ap, ◌∙◌, append-nil, is_ok}
 use Rattle.std.proofs.lemmas.Bool.{ltb-true}
-use Rattle.board.specs.declared.packets.Packet.{Packet}
 use Rattle.std.proofs.lemmas.List.{length-map, map_push}
+use Rattle.board.specs.declared.packets.Packet.{Packet}
 use Rattle.machine.specs.declared.answers.Answer.{Answer}
 use Rattle.machine.specs.declared.answers.Answer.TheVariants.{Fetched, Finished, Discarded}
 use Rattle.machine.specs.declared.calls.Call.{Call}
@@ -10,13 +10,14 @@ use Rattle.machine.specs.declared.calls.Call.TheVariants.{Configure, Arrive, Ste
 use Rattle.machine.specs.declared.calls.RawSettings.{RawSettings}
 use Rattle.machine.specs.declared.refusals.Refusal.{Refusal}
 use Rattle.machine.specs.State.{Core, State, idle, running, Batches, is_open}
-use Rattle.machine.specs.Checks.{first_refusal}
-use Rattle.machine.specs.Calls.{fetch}
 use Rattle.machine.specs.Moves.{set_gate, open_gate, shut_gate}
+use Rattle.machine.specs.Calls.{fetch}
+use Rattle.machine.specs.Checks.{first_refusal}
 use Rattle.machine.specs.Machine.{call, unless, fetch_checks}
 use Rattle.machine.specs.Laws.{if_accepted, fetched_by}
 use Rattle.machine.specs.Numbers.{holds, without}
-use Rattle.machine.proofs.Moved.{Move, lost, stored, signalled, begun, emptied, taken, rescheduled, completed, worked, fetched, finished, discarded, told, all_passed, Happens, happens, refused, asked_idle, configured, moved}
+use Rattle.machine.proofs.Moved.{Move, lost, stored, signalled, begun, emptied, taken, rescheduled, completed, worked, fetched, finished, discarded, told, all_passed, Happens, refused, asked_idle, configured, moved, happens}
+use Rattle.machine.proofs.Runs.{refused_same}
 use Rattle.machine.proofs.Unmoved.{gate_unmoved}
 use Rattle.conduct.specs.Lists.{out_of, receipts_of, unspent}
 
@@ -68,10 +69,11 @@ module _ (p : Batches) where
   pub fetch_receipts : (t : State) (q : Packet) → (call p Fetch t).0 ≡ Ok (Fetched q) → receipts_of (call p Fetch t).1 ≡ receipts_of t ++ unspent q.number ∷ []
   fetch_receipts t q h = call_receipts Fetch t ∙ ap (λ r. map unspent (out_by Fetch r (out_of t))) h ∙ map_push unspent (out_of t) q.number
 
-  pub refused_receipts : (c : Call) (t : State) (r : Refusal) → (call p c t).0 ≡ Err r → receipts_of (call p c t).1 ≡ receipts_of t
-  refused_receipts c t r h = call_receipts c t ∙ ap (map unspent) (ap (λ a. out_by c a (out_of t)) h ∙ sym (refused_out c r (out_of t)))
+  -- nothing changes where a call is refused
+  pub call_refused : (c : Call) (t : State) (r : Refusal) → (call p c t).0 ≡ Err r → (call p c t).1 ≡ t
+  call_refused c t r h = refused_same p t (call p c t).1 c (call p c t).0 r (happens p c t) h
 
-  -- nothing changes where it tells
+  -- or where it tells
   pub tell_same : (t : State) → (call p Tell t).1 ≡ t
   unfolding call set_gate
   tell_same (idle bs) = refl
@@ -103,4 +105,4 @@ module _ (p : Batches) where
   discard_done n (idle bs) h = cc
   discard_done n (running s x) h = rw h
 
-pub ruleset leaving = (call_receipts, fetch_receipts, refused_receipts, tell_same, finish_done, discard_done)
+pub ruleset leaving = (call_receipts, fetch_receipts, call_refused, tell_same, finish_done, discard_done)

@@ -14,12 +14,12 @@ use Rattle.receiver.specs.declared.receipts.Receipt.{Receipt}
 use Rattle.conduct.specs.declared.replies.Reply.{Reply}
 use Rattle.conduct.specs.declared.replies.Reply.TheVariants.{Accepted, Refused, NoReceipt}
 
--- the numbers that are out
+-- the numbers that are out: of each of them, and of no other, a receipt is held
 abbrev pub out_of : State → List ℕ
 out_of (idle bs) = []
 out_of (running s x) = x.out
 
--- their receipts, not spent yet
+-- the receipt of a number, before it is spent; those of all that is out
 abbrev pub unspent : ℕ → Receipt
 unspent n = record { number = n; spent = false }
 
@@ -37,7 +37,7 @@ reply_of (Ok a) = Accepted a
 reply_of (Err r) = Refused r
 
 module _ (p : Batches) where
-  -- the reply to one call of a list, and the receiver after it
+  -- the reply to a call of a list, and the receiver after it
   abbrev pub reply_to : Call → State → Reply
   reply_to c t = cond (is_made c (out_of t)) (reply_of (call p c t).0) NoReceipt
 
@@ -54,12 +54,12 @@ module _ (p : Batches) where
   made t [] = []
   made t (c ∷ cs) = cond (is_made c (out_of t)) (c ∷ made (call p c t).1 cs) (made t cs)
 
-  -- their trace, and where it ends
+  -- their trace, and the receiver where it ends
   abbrev pub conducted : State → List Call → List Entry
   conducted t cs = trace p t (made t cs)
 
-  abbrev pub left : State → List Call → State
-  left t cs = end_of t (conducted t cs)
+  abbrev pub after_list : State → List Call → State
+  after_list t cs = end_of t (conducted t cs)
 
 -- on a receiver just put up they keep a law
 abbrev pub Keeps : Law → Batches → List Bearer → List Call → Type 0

@@ -1,4 +1,4 @@
-ghost use Rattle.std.specs.Prelude.{◌≡◌, ◌==◌, List, ℕ, map, cond, Some, None, IfNone, vec_capacity};
+ghost use Rattle.std.specs.Prelude.{◌≡◌, ◌==◌, ℕ, List, map, IfNone, if◌then◌else◌, vec_capacity};
 ghost use Rattle.std.specs.List.{position};
 ghost use Rattle.machine.specs.Numbers.{holds, without};
 ghost use Rattle.receiver.specs.declared.receipts.Receipt.{Receipt};
@@ -17,7 +17,7 @@ fn place(receipts: &[Receipt], number: u32) -> Option<usize>
 
 /// Takes the receipt of a number from those held, if it is among them.
 pub(crate) fn take(receipts: &mut Vec<Receipt>, number: u32) -> Option<Receipt>
-    ensures value { (ns : List ℕ) → receipts.old.items ≡ map unspent ns → result ≡ cond (holds number ns) (Some (unspent number)) None }
+    ensures value { (ns : List ℕ) → receipts.old.items ≡ map unspent ns → result ≡ (if holds number ns then Some (unspent number) else None) }
     ensures after { (ns : List ℕ) → receipts.old.items ≡ map unspent ns → receipts.new.items ≡ map unspent (without number ns) }
     ensures none { IfNone result (receipts.new.items ≡ receipts.old.items) }
     ensures room { vec_capacity receipts.new ≡ vec_capacity receipts.old }

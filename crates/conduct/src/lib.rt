@@ -4,8 +4,10 @@
 mod held;
 mod lists;
 mod replies;
+mod sweeps;
 #[cfg(test)]
 mod tests;
 
 pub use lists::{Conducted, NoMemory, conduct};
 pub use replies::Reply;
+pub use sweeps::Swept;

@@ -4,7 +4,7 @@ ghost use Rattle.machine.specs.Ledger.{ledger};
 ghost use Rattle.machine.specs.State.{idle};
 ghost use Rattle.receiver.specs.Receivers.{batches};
 ghost use Rattle.receiver.specs.declared.receipts.Receipt.{Receipt};
-ghost use Rattle.conduct.specs.Lists.{Keeps, after_turn, conducted, left, receipts_of, replies_to, reply_to};
+ghost use Rattle.conduct.specs.Lists.{Keeps, after_list, after_turn, conducted, receipts_of, replies_to, reply_to};
 
 use crate::held::take;
 use crate::replies::Reply;
@@ -27,6 +27,7 @@ pub struct Conducted<B: Board, P: Policy> {
 }
 
 /// There was no memory, and no call was made.
+#[derive(Drop)]
 pub struct NoMemory<B: Board, P: Policy> {
     pub board: B,
     pub policy: P,
@@ -47,20 +48,16 @@ fn make<B: Board, P: Policy>(
     ensures room { MOST_OUT ≤ vec_capacity receipts.new }
 {
     match call {
-        Call::Configure(settings) => receiver
-            .configure(settings)
-            .map(|()| Answer::Configured)
-            .into(),
+        Call::Configure(settings) => {
+            Reply::from(receiver.configure(settings).map(|()| Answer::Configured))
+        }
         Call::Arrive {
             bearer,
             length,
             tag,
-        } => receiver
-            .arrive(bearer, length, tag)
-            .map(Answer::Arrived)
-            .into(),
-        Call::Step => receiver.step().map(Answer::Stepped).into(),
-        Call::Work(cycles) => receiver.work(cycles).map(|()| Answer::Worked).into(),
+        } => Reply::from(receiver.arrive(bearer, length, tag).map(Answer::Arrived)),
+        Call::Step => Reply::from(receiver.step().map(Answer::Stepped)),
+        Call::Work(cycles) => Reply::from(receiver.work(cycles).map(|()| Answer::Worked)),
         Call::Fetch => match receiver.fetch() {
             Ok((packet, receipt)) => {
                 receipts.push_reserved(receipt);
@@ -68,21 +65,21 @@ fn make<B: Board, P: Policy>(
             }
             Err(refusal) => Reply::Refused(refusal),
         },
-        Call::Finish(number) => {
-            let Some(receipt) = take(receipts, number) else {
-                return Reply::NoReceipt;
-            };
-            // Not refused: a number of which a receipt is held is out.
-            receiver.finish(receipt).unwrap();
-            Reply::Accepted(Answer::Finished)
-        }
-        Call::Discard(number) => {
-            let Some(receipt) = take(receipts, number) else {
-                return Reply::NoReceipt;
-            };
-            receiver.discard(receipt).unwrap();
-            Reply::Accepted(Answer::Discarded)
-        }
+        // Where a receipt is held, its number is out, so that neither call is refused.
+        Call::Finish(number) => match take(receipts, number) {
+            Some(receipt) => {
+                receiver.finish(receipt).unwrap();
+                Reply::Accepted(Answer::Finished)
+            }
+            None => Reply::NoReceipt,
+        },
+        Call::Discard(number) => match take(receipts, number) {
+            Some(receipt) => {
+                receiver.discard(receipt).unwrap();
+                Reply::Accepted(Answer::Discarded)
+            }
+            None => Reply::NoReceipt,
+        },
         Call::Tell => Reply::Accepted(Answer::Told(receiver.tell())),
     }
 }
@@ -95,7 +92,7 @@ pub fn conduct<B: Board, P: Policy>(
     calls: &[Call],
 ) -> Result<Conducted<B, P>, NoMemory<B, P>>
     ensures replies { IfOk result (λ d. d.replies.items ≡ replies_to (batches (P.quotas policy) P.GREATEST) (idle (B.bearers board)) calls.now) }
-    ensures receiver { IfOk result (λ d. d.receiver ≡ record { policy = policy; state = left (batches (P.quotas policy) P.GREATEST) (idle (B.bearers board)) calls.now }) }
+    ensures receiver { IfOk result (λ d. d.receiver ≡ record { policy = policy; state = after_list (batches (P.quotas policy) P.GREATEST) (idle (B.bearers board)) calls.now }) }
     ensures receipts { IfOk result (λ d. d.receipts.items ≡ receipts_of d.receiver.state) }
     ensures out { IfOk result (λ d. map (λ (r : Receipt). r.number) d.receipts.items ≡ (ledger (B.bearers board) (conducted (batches (P.quotas policy) P.GREATEST) (idle (B.bearers board)) calls.now)).columns.out) }
     ensures no_memory { IfErr result (λ e. e ≡ record { board = board; policy = policy }) }

@@ -12,7 +12,7 @@ use Rattle.machine.proofs.Turns.{equal_turns}
 use Rattle.machine.specs.State.{idle}
 use Rattle.receiver.specs.declared.receipts.Receipt.{Receipt}
 use Rattle.receiver.specs.Receivers.{batches}
-use Rattle.conduct.specs.Lists.{Keeps, left, receipts_of}
+use Rattle.conduct.specs.Lists.{Keeps, after_list, receipts_of}
 use Rattle.conduct.proofs.Keeping.{bounded, keeps, ledger_out}
 use Rattle.conduct.proofs.lists.conduct.Goals as goal
 
@@ -63,5 +63,5 @@ pub returns-clause-out : goal.returns-clause-out
 returns-clause-out g c =
     let p = batches (g.P.Policy.quotas c.args.policy) g.P.Policy.GREATEST in
     let bs = g.B.Board.bearers c.args.board in
-    let ended : c.loop-call.receiver.state ≡ left p (idle bs) c.args.calls.now = grind (arith, common_steps) in
+    let ended : c.loop-call.receiver.state ≡ after_list p (idle bs) c.args.calls.now = grind (arith, common_steps) in
     ap (map (λ (r : Receipt). r.number)) (c.loop-call.invariant.held ∙ ap receipts_of ended) ∙ ledger_out p bs c.args.calls.now
