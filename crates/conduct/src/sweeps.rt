@@ -17,9 +17,9 @@ pub struct Swept<B: Board, P: Policy> {
 }
 
 impl<B: Board, P: Policy> Conducted<B, P> {
-    #[tactic(auto, using(crate::proofs::Sweeping::all_spent))]
     /// Spends the receipts by discard, the last first. One that is refused is handed back, with those before it; of what
     /// `conduct` leaves, none is refused.
+    #[tactic(auto, using(crate::proofs::Sweeping::all_spent))]
     pub fn sweep(mut self) -> Result<Swept<B, P>, Conducted<B, P>>
         ensures spent { IfOk result (λ s. Sweeps (batches (P.quotas self.receiver.policy) P.GREATEST) self.receiver self.receipts.items s.receiver []) }
         ensures refused { IfErr result (λ d. Sweeps (batches (P.quotas self.receiver.policy) P.GREATEST) self.receiver self.receipts.items d.receiver d.receipts.items) }
@@ -28,13 +28,11 @@ impl<B: Board, P: Policy> Conducted<B, P> {
         ensures all_out { self.receipts.items ≡ receipts_of self.receiver.state → IsOk result }
     {
         while let Some(receipt) = self.receipts.pop() {
-            if let Err(
-                Unspent {
+            if let Err(unspent) = self.receiver.discard(receipt) {
+                let Unspent {
                     refusal: _,
                     receipt,
-                },
-            ) = self.receiver.discard(receipt)
-            {
+                } = unspent;
                 self.receipts.push_reserved(receipt);
                 return Err(self);
             }
