@@ -58,7 +58,7 @@ module _ (p : Batches) where
   happens_out t _ c _ (refused {r = r}) = refused_out c r (out_of t)
   happens_out _ _ _ _ asked_idle = refl
   happens_out _ _ _ _ (configured ranges empty share) = refl
-  happens_out _ _ _ _ (moved {s = s} {x = x} {y = y} {c = c} {a = a} m) = (gate_unmoved s x y).out ∙ moved_out s x y c a m
+  happens_out _ _ _ _ (moved {s = s} {x = x} {y = y} {c = c} {a = a} m _) = (gate_unmoved s x y).out ∙ moved_out s x y c a m
 
   pub call_out : (c : Call) (t : State) → out_of (call p c t).1 ≡ out_by c (call p c t).0 (out_of t)
   call_out c t = happens_out t (call p c t).1 c (call p c t).0 (happens p c t)

@@ -1,14 +1,13 @@
 -- A sweep of the receipts of all that is out leaves none.
-use Rattle.std.proofs.Common.{◌≡◌, ℕ, ◌+◌, ◌≤◌, Bool, true, false, cond, List, [], ◌∷◌, ◌++◌, map, reverse, is_ok, Err, refl, sym, ap, ◌∙◌, arith}
+use Rattle.std.proofs.Common.{◌≡◌, ℕ, ◌≤◌, Bool, true, false, cond, List, [], ◌∷◌, ◌++◌, map, reverse, is_ok, Err, refl, sym, ap, ◌∙◌, arith}
 use Rattle.std.proofs.lemmas.List.{map_push, reverse-append}
 use Rattle.machine.specs.declared.calls.Call.TheVariants.{Discard}
 use Rattle.machine.specs.declared.refusals.Refusal.{Refusal}
 use Rattle.machine.specs.State.{State, Batches}
 use Rattle.machine.specs.Machine.{call}
 use Rattle.machine.specs.Numbers.{holds, times, without}
-use Rattle.machine.proofs.Basics.{times-append}
 use Rattle.machine.proofs.Loads.{free_times}
-use Rattle.machine.proofs.Places.{out_without}
+use Rattle.machine.proofs.Basics.{times-append, times-without}
 use Rattle.receiver.specs.declared.receipts.Receipt.{Receipt}
 use Rattle.receiver.specs.Receivers.{Receiving, after}
 use Rattle.conduct.specs.Lists.{out_of, receipts_of, unspent}
@@ -45,7 +44,7 @@ module _ (p : Batches) where
       let held : holds n (out_of t) ≡ true = counted_held n (out_of t) (grind (arith, h n)) in
       let done = discard_done p n t held in
       let out : out_of (call p (Discard n) t).1 ≡ without n (out_of t) = call_out p (Discard n) t ∙ ap (λ r. cond (is_ok r) (without n (out_of t)) (out_of t)) done in
-      rw done (none_left ns (call p (Discard n) t).1 (λ m. rw out (omega (arith, h m, out_without m n (out_of t) held))))
+      rw done (none_left ns (call p (Discard n) t).1 (λ m. rw out (omega (arith, h m, times-without m n (out_of t) held))))
 
   pub all_spent : (t : State) (rs : List Receipt) → rs ≡ receipts_of t → (swept p t (reverse rs)).1 ≡ []
   all_spent t rs e =
@@ -67,3 +66,10 @@ ends_there p r s u all held back x e same goes_on value is put =
       receiver = cc (is, same, stays, ap (λ (w : State × List Receipt). w.0) whole);
       left_is = ap reverse put ∙ turned ∙ ap (λ (w : State × List Receipt). w.1) whole;
     }
+
+-- so a receipt that is put back was not of all that is out
+pub not_all_out : {P : Type 0} (p : Batches) (r u : Receiving P) (all held back : List Receipt) (x : Receipt) → Sweeps p r all u back → back ≡ held ++ x ∷ [] →
+    all ≡ receipts_of r.state → ⊥
+not_all_out p r u all held back x ends put out =
+    let none : x ∷ reverse held ≡ [] = sym (reverse-append held (x ∷ [])) ∙ ap reverse (sym put) ∙ ends.left_is ∙ all_spent p r.state all out in
+    cc none

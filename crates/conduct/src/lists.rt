@@ -1,5 +1,5 @@
 ghost use Rattle.std.specs.Prelude.{◌≡◌, ◌≤◌, map, IfOk, IfErr, OnOk, vec_capacity};
-ghost use Rattle.machine.specs.Laws.{ArrivalOrder, BoundedBatches, EqualTurns, LedgerAgrees, NeverDeaf, OnePlace, OneWay, Quiet, RefusalsLeave, Share, TrueAnswers, TrueRecords};
+ghost use Rattle.machine.specs.Laws.{ArrivalOrder, BoundedBatches, BoundedMemory, EqualTurns, LedgerAgrees, NeverDeaf, OnePlace, OneWay, Quiet, RefusalsLeave, Share, TrueAnswers, TrueRecords};
 ghost use Rattle.machine.specs.Ledger.{ledger};
 ghost use Rattle.machine.specs.State.{idle};
 ghost use Rattle.receiver.specs.Receivers.{batches};
@@ -108,6 +108,7 @@ pub fn conduct<B: Board, P: Policy>(
     ensures equal_turns { OnOk result (Keeps EqualTurns (batches (P.quotas policy) P.GREATEST) (B.bearers board) calls.now) }
     ensures bounded_batches { OnOk result (Keeps BoundedBatches (batches (P.quotas policy) P.GREATEST) (B.bearers board) calls.now) }
     ensures quiet { OnOk result (Keeps Quiet (batches (P.quotas policy) P.GREATEST) (B.bearers board) calls.now) }
+    ensures bounded_memory { OnOk result (Keeps BoundedMemory (batches (P.quotas policy) P.GREATEST) (B.bearers board) calls.now) }
 {
     let Ok(mut replies) = Vec::with_capacity(alloc, calls.len()) else {
         return Err(NoMemory { board, policy });

@@ -1,10 +1,11 @@
 use Rattle.std.proofs.Common.{arith, ◌≡◌, ◌∙◌, ap, map}
 use Rattle.std.proofs.lemmas.Grind.{common_steps}
-use Rattle.machine.specs.Laws.{Always, Law, RefusalsLeave, Share, TrueRecords, LedgerAgrees, TrueAnswers, OnePlace, ArrivalOrder, NeverDeaf, OneWay, EqualTurns, BoundedBatches, Quiet}
+use Rattle.machine.specs.Laws.{Always, Law, RefusalsLeave, Share, TrueRecords, LedgerAgrees, TrueAnswers, OnePlace, ArrivalOrder, NeverDeaf, OneWay, EqualTurns, BoundedBatches, Quiet, BoundedMemory}
 use Rattle.machine.proofs.Agreement.{ledger_agrees, true_answers}
 use Rattle.machine.proofs.Batches.{bounded_batches}
 use Rattle.machine.proofs.Order.{arrival_order}
 use Rattle.machine.proofs.Places.{one_place}
+use Rattle.machine.proofs.Room.{bounded_memory}
 use Rattle.machine.proofs.Runs.{refusals_leave}
 use Rattle.machine.proofs.Share.{share, true_records}
 use Rattle.machine.proofs.Tidy.{never_deaf, one_way, quiet}
@@ -58,6 +59,9 @@ returns-clause-bounded_batches g c = kept g c BoundedBatches bounded_batches
 
 pub returns-clause-quiet : goal.returns-clause-quiet
 returns-clause-quiet g c = kept g c Quiet quiet
+
+pub returns-clause-bounded_memory : goal.returns-clause-bounded_memory
+returns-clause-bounded_memory g c = kept g c BoundedMemory bounded_memory
 
 pub returns-clause-out : goal.returns-clause-out
 returns-clause-out g c =
