@@ -1,0 +1,38 @@
+-- What is printed of a text of calls: a line for each, said by the rules of the script.
+use Rattle.std.specs.Prelude.{◌≡◌, ℕ, cond, List, [], ◌∷◌, ◌++◌, Ok, Err, Result, codes, flat_map, length, nat_le, string_bytes, String}
+use Rattle.std.specs.declared.alloc.Global.{Global}
+use Rattle.conduct.specs.Lists.{replies_to}
+use Rattle.conduct.specs.declared.replies.Reply.{Reply}
+use Rattle.conduct.specs.declared.replies.Reply.TheVariants.{Accepted, Refused, NoReceipt}
+use Rattle.machine.specs.Examples.{four, standard_board}
+use Rattle.machine.specs.State.{idle}
+use Rattle.script.specs.Answers.{said}
+use Rattle.script.specs.Refusals.{refused}
+use Rattle.script.specs.Script.{Meaning, meaning}
+use Rattle.transcript.specs.declared.failures.Failure.{Failure}
+use Rattle.transcript.specs.declared.failures.Failure.TheVariants.{TooLong, Unread, NoMemory}
+
+abbrev pub line_of : Reply → List ℕ
+line_of (Accepted a) = said a
+line_of (Refused r) = refused r
+line_of NoReceipt = codes "no receipt"
+
+-- each line ends in a line feed
+abbrev pub lines_of : List Reply → List ℕ
+lines_of replies = flat_map (λ r. line_of r ++ 10 ∷ []) replies
+
+-- on the standard receiver: the lines of the replies to all calls, or the first line that cannot be read
+abbrev pub answers : Meaning → Result (List ℕ) Failure
+answers (Ok calls) = Ok (lines_of (replies_to four (idle standard_board) calls))
+answers (Err u) = Err (Unread u)
+
+-- no text above 1,048,576 bytes is read
+abbrev pub transcript : List ℕ → Result (List ℕ) Failure
+transcript text = cond (nat_le (length text) 1048576) (answers (meaning text)) (Err TooLong)
+
+-- when a host's answer is what is to be printed; want of memory says nothing of the text
+abbrev pub Tells : Result (List ℕ) Failure → Result (String Global) Failure → Type 0
+Tells t (Ok text) = t ≡ Ok (string_bytes text)
+Tells t (Err TooLong) = t ≡ Err TooLong
+Tells t (Err (Unread u)) = t ≡ Err (Unread u)
+Tells t (Err NoMemory) = Unit {0}
