@@ -1,5 +1,5 @@
 -- The calls of a list that are made keep each law that always holds; and what is out then is what the ledger says.
-use Rattle.std.proofs.Common.{◌≡◌, ℕ, ◌≤◌, List, [], ◌∷◌, map, refl, sym, ap, ◌∙◌}
+use Rattle.std.proofs.Common.{◌≡◌, ℕ, List, [], ◌∷◌, map, refl, sym, ap, ◌∙◌}
 use Rattle.board.specs.Bearers.{Bearer}
 use Rattle.machine.specs.declared.calls.Call.{Call}
 use Rattle.machine.specs.State.{State, idle, running, Batches}
@@ -8,13 +8,7 @@ use Rattle.machine.specs.Laws.{Bounded, Always, Law}
 use Rattle.machine.proofs.Runs.{at_end}
 use Rattle.machine.proofs.Agreement.{TallyState, Agreeing, starts_agreeing, keeps_agreeing}
 use Rattle.receiver.specs.declared.receipts.Receipt.{Receipt}
-use Rattle.receiver.specs.Receivers.{batches}
 use Rattle.conduct.specs.Lists.{after_list, conducted, made, out_of, unspent, receipts_of, Keeps}
-
--- a policy whose quotas are in its bounds
-pub bounded : {quotas : ℕ → ℕ → ℕ} {greatest : ℕ} → ((b w : ℕ) → (1 ≤ quotas b w) × (quotas b w ≤ greatest)) → (1 ≤ greatest) × (greatest ≤ 64) →
-    Bounded (batches quotas greatest)
-bounded each range = record { least = λ b w. (each b w).0; most = λ b w. (each b w).1; small = range.1 }
 
 -- the receipts of what is out have its numbers
 numbered : (ns : List ℕ) → map (λ (r : Receipt). r.number) (map unspent ns) ≡ ns

@@ -6,7 +6,7 @@ use Rattle.board.specs.declared.packets.Packet.{Packet}
 use Rattle.machine.specs.declared.answers.Answer.{Answer}
 use Rattle.machine.specs.declared.answers.Answer.TheVariants.{Fetched, Finished, Discarded}
 use Rattle.machine.specs.declared.calls.Call.{Call}
-use Rattle.machine.specs.declared.calls.Call.TheVariants.{Configure, Arrive, Step, Work, Fetch, Finish, Discard, Tell}
+use Rattle.machine.specs.declared.calls.Call.TheVariants.{Fetch, Finish, Discard, Tell}
 use Rattle.machine.specs.declared.calls.RawSettings.{RawSettings}
 use Rattle.machine.specs.declared.refusals.Refusal.{Refusal}
 use Rattle.machine.specs.State.{Core, State, idle, running, Batches, is_open}
@@ -29,14 +29,8 @@ out_by (Discard n) r out = cond (is_ok r) (without n out) out
 out_by _ r out = out
 
 refused_out : (c : Call) (r : Refusal) (out : List ℕ) → out ≡ out_by c (Err r) out
-refused_out (Configure s) r out = refl
-refused_out (Arrive b n t) r out = refl
-refused_out Step r out = refl
-refused_out (Work c) r out = refl
 refused_out Fetch r out = sym (append-nil out)
-refused_out (Finish n) r out = refl
-refused_out (Discard n) r out = refl
-refused_out Tell r out = refl
+refused_out _ r out = refl
 
 module _ (p : Batches) where
   moved_out : (s : RawSettings) (x y : Core) (c : Call) (a : Answer) → Move s p x c a y → y.out ≡ out_by c (Ok a) x.out

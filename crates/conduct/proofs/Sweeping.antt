@@ -9,7 +9,7 @@ use Rattle.machine.specs.Numbers.{holds, times, without}
 use Rattle.machine.proofs.Loads.{free_times}
 use Rattle.machine.proofs.Basics.{times-append, times-without}
 use Rattle.receiver.specs.declared.receipts.Receipt.{Receipt}
-use Rattle.receiver.specs.Receivers.{Receiving, after}
+use Rattle.receiver.specs.Receivers.{Receiving}
 use Rattle.conduct.specs.Lists.{out_of, receipts_of, unspent}
 use Rattle.conduct.specs.Sweeps.{swept, Sweeps}
 use Rattle.conduct.proofs.Out.{call_out, call_refused, discard_done}
@@ -54,7 +54,7 @@ module _ (p : Batches) where
 -- was, and x put back.
 pub ends_there : {P : Type 0} (p : P → Batches) (r s u : Receiving P) (all held back : List Receipt) (x : Receipt) (e : Refusal) → s.policy ≡ r.policy →
     swept (p r.policy) s.state (reverse (held ++ x ∷ [])) ≡ swept (p r.policy) r.state (reverse all) →
-    Err e ≡ (call (p s.policy) (Discard x.number) s.state).0 → u ≡ after (p s.policy) (Discard x.number) s → back ≡ held ++ x ∷ [] →
+    Err e ≡ (call (p s.policy) (Discard x.number) s.state).0 → u ≡ record s { state = (call (p s.policy) (Discard x.number) s.state).1 } → back ≡ held ++ x ∷ [] →
     Sweeps (p r.policy) r all u back
 ends_there p r s u all held back x e same goes_on value is put =
     let turned : reverse (held ++ x ∷ []) ≡ x ∷ reverse held = reverse-append held (x ∷ []) in

@@ -130,7 +130,7 @@ module _ (s : RawSettings) (p : Batches) (x : Core) (t : CountedCore s x) where
   move_counted _ _ _ (rescheduled e) k = t
   move_counted _ _ _ (completed {g = g} {o = o} e w r) k =
       cond_both o _ _ (λ (bs : List Bearer). Counted s.size bs x.queue x.out x.counts x.clock.closed)
-      (λ _. reshown t g.bearer (after_arm false) (ap waiting_in (armed_same (bearer_of x.bearers g.bearer)))) (λ _. t)
+      (λ _. reshown t g.bearer (after_arm false) (ap waiting_in (armed_same false (bearer_of x.bearers g.bearer)))) (λ _. t)
   move_counted _ _ _ (worked h) k = reclosed t _ (closes_few s _ k.closed)
   move_counted _ _ _ (fetched {q = q} {rest = rest} e) k = record {
     queue = omega (arith, t.queue, ap length e);

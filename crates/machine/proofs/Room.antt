@@ -1,49 +1,18 @@
--- What code that holds a receiver in fixed memory takes from Kept: its figures fit, and its poll list has room.
-use Rattle.std.proofs.Common.{◌≡◌, ℕ, ◌+◌, ◌<◌, ◌≤◌, true, ◌||◌, List, ◌∷◌, length, Some, sym, ap, ◌∙◌, ⊎_elim, arith}
+-- What code that holds a receiver in fixed memory takes from Kept: its poll list has room.
+use Rattle.std.proofs.Common.{◌≡◌, ℕ, ◌<◌, ◌≤◌, true, ◌||◌, length, Some, sym, ap, ◌∙◌, ⊎_elim, arith}
 use Rattle.std.proofs.lemmas.Bool.{cases_lt}
 use Rattle.board.specs.declared.packets.Packet.{Packet}
 use Rattle.board.specs.Bearers.{Bearer, bearer_of, changed, after_offer}
 use Rattle.board.proofs.Changes.{bearer_changed}
-use Rattle.machine.specs.declared.answers.Counts.{Counts}
 use Rattle.machine.specs.declared.calls.RawSettings.{RawSettings}
-use Rattle.machine.specs.State.{Clock, Grant, Core, idle, Batches, waits, serves}
-use Rattle.machine.specs.Numbers.{holds, times}
+use Rattle.machine.specs.State.{Grant, Core, idle, Batches, serves}
+use Rattle.machine.specs.Numbers.{times}
 use Rattle.machine.specs.Laws.{Always, BoundedMemory}
-use Rattle.machine.proofs.Basics.{length-without}
-use Rattle.machine.proofs.Counted.{one_left}
 use Rattle.machine.proofs.Kept.{Kept, KeptState, call_keeps}
 use Rattle.machine.proofs.Listed.{fits_in, room_in}
 use Rattle.machine.proofs.Runs.{throughout, if_running}
 
--- the cycles of the open period
-pub record Cycles (s : RawSettings) (k : Clock) : Type 0 where
-  pub elapsed : k.elapsed ≡ k.used + k.offered
-  pub used : k.used < s.period
-  pub offered : k.offered ≤ s.period
-
--- no count is above the packets numbered
-pub record Few (n : Counts) : Type 0 where
-  pub delivered : n.delivered ≤ n.numbered
-  pub bearer_full : n.bearer_full ≤ n.numbered
-  pub queue_full : n.queue_full ≤ n.numbered
-  pub discarded : n.discarded ≤ n.numbered
-
 module _ (p : Batches) (s : RawSettings) (x : Core) (k : Kept p s x) where
-  pub cycles : Cycles s x.clock
-  cycles =
-      let a = k.funded.accounts in
-      record { elapsed = omega (arith, a.spent, a.offered); used = omega (arith, a.bound, k.funded.some); offered = omega (arith, a.offered, a.fits) }
-
-  pub few : Few x.counts
-  few = record { delivered = omega (arith, k.counted); bearer_full = omega (arith, k.counted); queue_full = omega (arith, k.counted); discarded = omega (arith, k.counted) }
-
-  -- a number that is out is not yet counted as delivered or discarded, nor is a packet that waits counted as queue-full
-  pub spends : (n : ℕ) → holds n x.out ≡ true → x.counts.delivered + x.counts.discarded + 1 ≤ x.counts.numbered
-  spends n h = omega (arith, k.counted, length-without n x.out h)
-
-  pub takes : (b : ℕ) (q : Packet) (rest : List Packet) → waits x.bearers b ≡ q ∷ rest → x.counts.queue_full + 1 ≤ x.counts.numbered
-  takes b q rest e = omega (arith, k.counted, one_left x.bearers b q rest e)
-
   -- the poll list, at rest
   pub listed : length x.listed ≤ length x.bearers
   listed = fits_in (length x.bearers) x.listed (λ b. omega (arith, k.tidy.once b)) (λ b i. omega (arith, k.shown b i))

@@ -131,7 +131,7 @@ module _ (p : Batches) (start : List Bearer) where
     move_funded _ _ _ (completed {g = g} {o = o} e w r) n =
         kept x i n _ None
         (cond_both o _ _ Cheap
-        (λ _. cheap_changed x.bearers g.bearer (after_arm false) (ap (λ (v : Bearer). v.cost) (armed_same (bearer_of x.bearers g.bearer))) i.cheap)
+        (λ _. cheap_changed x.bearers g.bearer (after_arm false) (ap (λ (v : Bearer). v.cost) (armed_same false (bearer_of x.bearers g.bearer))) i.cheap)
         (λ _. i.cheap))
         (omega arith)
     move_funded _ _ _ (worked r) n = record {

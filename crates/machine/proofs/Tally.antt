@@ -202,7 +202,7 @@ module _ (s : RawSettings) (p : Batches) (x : Core) (depths : List ℕ) (l : Led
   move_tally _ _ _ (completed {g = g} {o = o} e w i) =
       let b : ℕ = g.bearer in
       regranted (cond_both o _ _ (λ (bs : List Bearer). Tally depths s.size bs x.grant x.queue x.out x.counts l)
-      (λ _. let same = armed_same (bearer_of x.bearers b) in reshown t b (after_arm false) (ap numbers_in same) (ap depth_of same))
+      (λ _. let same = armed_same false (bearer_of x.bearers b) in reshown t b (after_arm false) (ap numbers_in same) (ap depth_of same))
       (λ _. t)) None tt
   move_tally _ _ _ (worked h) = t
   move_tally _ _ _ (fetched {q = q} {rest = rest} e) = one_fetched t q rest e

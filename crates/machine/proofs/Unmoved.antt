@@ -1,5 +1,5 @@
 -- What the gate leaves as it was: all but whether bearers are armed and signal, and the end of the poll list.
-use Rattle.std.proofs.Common.{◌≡◌, ℕ, false, List, [], ◌∷◌, ◌++◌, map, length, refl, ap, ◌∙◌, append_assoc, append-nil, sym}
+use Rattle.std.proofs.Common.{◌≡◌, ℕ, Bool, false, List, [], ◌∷◌, ◌++◌, map, length, refl, ap, ◌∙◌, append_assoc, append-nil, sym}
 use Rattle.std.proofs.Math.Seq.{map-set_same}
 use Rattle.std.proofs.Math.ListN.{get_or-map}
 use Rattle.std.proofs.lemmas.Bool.{cond_both}
@@ -41,8 +41,8 @@ rearmed : (f : Bearer → Bearer) → ((v : Bearer) → after_disarm (f v) ≡ a
 rearmed f same bs b = map-set_same after_disarm bs b (f (bearer_of bs b)) absent (same (bearer_of bs b))
 
 -- arming leaves all else of a bearer as it was
-pub armed_same : (v : Bearer) → after_disarm (after_arm false v) ≡ after_disarm v
-armed_same v = cond_both v.armed _ _ (λ (w : Bearer). after_disarm w ≡ after_disarm v) (λ _. refl) (λ _. refl)
+pub armed_same : (r : Bool) (v : Bearer) → after_disarm (after_arm r v) ≡ after_disarm v
+armed_same r v = cond_both v.armed _ _ (λ (w : Bearer). after_disarm w ≡ after_disarm v) (λ _. refl) (λ _. refl)
 
 module _ (x : Core) where
   unmoved_open : (b : ℕ) (y : Core) → Unmoved x y → Unmoved x (open_bearer b y)
@@ -73,7 +73,7 @@ module _ (x : Core) where
       }))
     where
       armed : map after_disarm (arm b y).bearers ≡ map after_disarm x.bearers
-      armed = rearmed (after_arm false) armed_same y.bearers b ∙ u.bearers
+      armed = rearmed (after_arm false) (armed_same false) y.bearers b ∙ u.bearers
 
   -- another board that shows the same
   reshown : (bs : List Bearer) → map after_disarm bs ≡ map after_disarm x.bearers → Unmoved x (record x { bearers = bs })

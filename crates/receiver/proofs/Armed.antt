@@ -1,13 +1,14 @@
 -- Whether arming raises a signal makes no difference: the receiver arms where nothing waits, or disarms at once.
 use Rattle.std.proofs.Common.{◌≡◌, ℕ, Bool, true, false, List, ap, sym, ◌∙◌}
-use Rattle.std.proofs.lemmas.Bool.{cond_both, cond-true, cond-false}
+use Rattle.std.proofs.lemmas.Bool.{cond-true, cond-false}
 use Rattle.board.specs.Bearers.{Bearer, bearer_of, changed, any_waiting, after_arm, after_disarm}
 use Rattle.board.proofs.Changes.{changed_twice}
+use Rattle.machine.proofs.Unmoved.{armed_same}
 use Rattle.machine.specs.State.{Core, waits, busy}
 use Rattle.machine.specs.Moves.{join, open_bearer}
 
 armed_disarmed : (r : Bool) (v : Bearer) → after_disarm (after_arm r v) ≡ after_disarm (after_arm false v)
-armed_disarmed r v = cond_both v.armed _ _ (λ (w : Bearer). after_disarm w ≡ after_disarm (after_arm false v)) (λ e. ap after_disarm (sym (cond-true _ _ _ e))) (λ e. ap after_disarm (sym (cond-false _ _ _ e)))
+armed_disarmed r v = armed_same r v ∙ sym (armed_same false v)
 
 disarmed_again : (r : Bool) (bs : List Bearer) (b : ℕ) → changed (changed bs b (after_arm r)) b after_disarm ≡ changed (changed bs b (after_arm false)) b after_disarm
 disarmed_again r bs b =

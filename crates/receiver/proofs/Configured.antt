@@ -9,6 +9,7 @@ use Rattle.machine.specs.declared.calls.RawSettings.{RawSettings}
 use Rattle.machine.specs.declared.refusals.Refusal.{Refusal}
 use Rattle.machine.specs.declared.refusals.Refusal.TheVariants.{NoShare, AlreadyConfigured}
 use Rattle.machine.specs.Checks.{Check, first_refusal}
+use Rattle.machine.specs.Laws.{Bounded}
 use Rattle.machine.specs.Settings.{settings_checks, grant_bound}
 use Rattle.machine.specs.State.{Core, State, idle, running, Batches, waits}
 use Rattle.machine.specs.Machine.{unless, fresh, waiting_checks, configure_checks, call}
@@ -20,7 +21,7 @@ use Rattle.receiver.specs.Empty.{empty_over}
 use Rattle.receiver.specs.Receivers.{batches}
 use Rattle.receiver.specs.Settings.{raw}
 use Rattle.receiver.specs.Sound.{state_of}
-use Rattle.receiver.proofs.Called.{Comes, Policed, bounded_by}
+use Rattle.receiver.proofs.Called.{Comes}
 
 -- checks that all passed, or of which one failed, with more behind them
 passed_on : (cs ds : List Check) → None ≡ first_refusal cs → first_refusal (cs ++ ds) ≡ first_refusal ds
@@ -68,11 +69,9 @@ nothing_waits bs e b = ap any_waiting (none_waits 0 bs b (all_passed (waiting_ch
 pub rearmed : (x y : Core) → x ≡ empty_over x.bearers → y ≡ record x { bearers = map (λ (v : Bearer). after_arm false (after_disarm v)) x.bearers } → y ≡ fresh x.bearers
 rearmed x y e f = f ∙ ap (λ (z : Core). record z { bearers = map (λ (v : Bearer). after_arm false (after_disarm v)) x.bearers }) e
 
-pub fresh_kept : (quotas : ℕ → ℕ → ℕ) (greatest : ℕ) → Policed quotas greatest → (s : Settings) (n : RawSettings) (bs : List Bearer) (y : Core) → raw s ≡ n → y ≡ fresh bs →
-    Comes (batches quotas greatest) (Configure n) (idle bs) (Ok Configured) (running n (fresh bs)) → Kept (batches quotas greatest) (raw s) y
-fresh_kept quotas greatest policed s n bs y is e comes =
-    let p : Batches = batches quotas greatest in
-    let kept : Kept p n (fresh bs) = subst (KeptState p) (ap (λ (d : _ × State). d.1) comes) (keeps p (bounded_by quotas greatest policed) (Configure n) (idle bs) tt) in
+pub fresh_kept : {p : Batches} → Bounded p → (s : Settings) (n : RawSettings) (bs : List Bearer) (y : Core) → raw s ≡ n → y ≡ fresh bs → Comes p (Configure n) (idle bs) (Ok Configured) (running n (fresh bs)) → Kept p (raw s) y
+fresh_kept {p = p} b s n bs y is e comes =
+    let kept : Kept p n (fresh bs) = subst (KeptState p) (ap (λ (d : _ × State). d.1) comes) (keeps p b (Configure n) (idle bs) tt) in
     subst (λ (m : RawSettings). Kept p m y) (sym is) (subst (Kept p n) (sym e) kept)
 
 -- whether there are settings

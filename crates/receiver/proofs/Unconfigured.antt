@@ -1,5 +1,5 @@
 -- The calls that answer before the receiver is configured, too.
-use Rattle.std.proofs.Common.{◌≡◌, ℕ, [], Some, None, Ok, Err, Option, refl, ap, sym, ◌∙◌}
+use Rattle.std.proofs.Common.{◌≡◌, ◌≤◌, ℕ, [], Some, None, Ok, Err, Option, refl, ap, sym, ◌∙◌}
 use Rattle.std.proofs.lemmas.Bool.{cond_both, cond-true, cond-false}
 use Rattle.machine.specs.declared.answers.Answer.{Answer}
 use Rattle.machine.specs.declared.calls.Call.{Call}
@@ -17,8 +17,8 @@ use Rattle.receiver.specs.declared.settings.Settings.{Settings}
 use Rattle.receiver.specs.Settings.{raw}
 use Rattle.receiver.specs.Empty.{empty_over}
 use Rattle.receiver.specs.Sound.{state_of, Sound}
-use Rattle.receiver.specs.Receivers.{batches}
-use Rattle.receiver.proofs.Called.{Comes, comes_refused, comes_accepted, Policed, sound}
+use Rattle.receiver.specs.Receivers.{Receiving, batches, answer_to, after}
+use Rattle.receiver.proofs.Called.{Comes, comes_refused, comes_accepted, answers, shows, bounded, sound}
 
 -- a move that leaves the gate's state alone needs no setting of the gate
 gate_same : (s : RawSettings) (x y : Core) → is_open s y ≡ is_open s x → y ≡ set_gate s x y
@@ -60,11 +60,26 @@ module _ (p : Batches) (o : Option Settings) (x : Core) where
         by None k = absurd (none_out n k e)
         by (Some s) k = comes_accepted p (raw s) x c (out_checks n x) done (is (raw s)) done.0 y e refl (f ∙ gate_same (raw s) x done.1 (same (raw s)))
 
--- what is spent leaves the receiver sound
-pub spent_sound : (quotas : ℕ → ℕ → ℕ) (greatest : ℕ) → Policed quotas greatest → (o : Option Settings) (x : Core) (n : ℕ) (c : Call) (done : Answer × Core) →
-    call (batches quotas greatest) c (idle x.bearers) ≡ (Err NotOut, idle x.bearers) → ((s : RawSettings) → running_call s x (batches quotas greatest) c ≡ checked s x (out_checks n x) done) →
-    Sound (batches quotas greatest) o x → (y : Core) → None ≡ first_refusal (out_checks n x) → y ≡ done.1 → ((s : RawSettings) → is_open s done.1 ≡ is_open s x) →
-    Sound (batches quotas greatest) o y
-spent_sound quotas greatest policed None x n c done idly is k y e f same = absurd (none_out (batches quotas greatest) None x n k e)
-spent_sound quotas greatest policed (Some s) x n c done idly is k y e f same =
-    sound quotas greatest policed c x {s = s} refl k (spent (batches quotas greatest) (Some s) x n c done idly is k y e f same)
+-- What finish and discard answer and show, of a number n that the receipt has.
+module _ {P : Type 0} (quotas : P → ℕ → ℕ → ℕ) (greatest : ℕ) (o : Option Settings) (x : Core) {y : P} {v : Receiving P} (is : record { policy = y; state = state_of o x } ≡ v) (n : ℕ) (c : Call) (done : Answer × Core)
+    (idly : call (batches (quotas y) greatest) c (idle x.bearers) ≡ (Err NotOut, idle x.bearers)) (by : (s : RawSettings) → running_call s x (batches (quotas y) greatest) c ≡ checked s x (out_checks n x) done) {m : ℕ} (number : m ≡ n) where
+  pub hands_back : {r : Refusal} {z : Core} → z ≡ x → Some r ≡ first_refusal (out_checks m x) →
+      record { value : Err r ≡ answer_to quotas greatest c v; after : record { policy = y; state = state_of o z } ≡ after quotas greatest c v }
+  hands_back {r = r} same failed =
+      let comes = unspent (batches (quotas y) greatest) o x n c done idly by r (failed ∙ ap (λ (k : ℕ). first_refusal (out_checks k x)) number) in
+      record { value = answers quotas greatest y x is refl c comes; after = shows quotas greatest y x is refl c comes (ap (state_of o) same) }
+
+  module _ (bounds : (b w : ℕ) → (1 ≤ quotas y b w) × (quotas y b w ≤ greatest)) (range : (1 ≤ greatest) × (greatest ≤ 64)) (k : Sound (batches (quotas y) greatest) o x) (same : (s : RawSettings) → is_open s done.1 ≡ is_open s x)
+      {z : Core} (passed : None ≡ first_refusal (out_checks m x)) (did : z ≡ done.1) where
+    comes : Comes (batches (quotas y) greatest) c (state_of o x) (Ok done.0) (state_of o z)
+    comes = spent (batches (quotas y) greatest) o x n c done idly by k z (passed ∙ ap (λ (j : ℕ). first_refusal (out_checks j x)) number) did same
+
+    pub spends : record { value : Ok done.0 ≡ answer_to quotas greatest c v; after : record { policy = y; state = state_of o z } ≡ after quotas greatest c v }
+    spends = record { value = answers quotas greatest y x is refl c comes; after = shows quotas greatest y x is refl c comes refl }
+
+    pub spent_sound : Sound (batches (quotas y) greatest) o z
+    spent_sound = by_settings o k comes
+      where
+        by_settings : (q : Option Settings) → Sound (batches (quotas y) greatest) q x → Comes (batches (quotas y) greatest) c (state_of q x) (Ok done.0) (state_of q z) → Sound (batches (quotas y) greatest) q z
+        by_settings None k e = absurd (none_out (batches (quotas y) greatest) None x n k (passed ∙ ap (λ (j : ℕ). first_refusal (out_checks j x)) number))
+        by_settings (Some s) k e = sound (bounded bounds range) c x {s = s} refl k e

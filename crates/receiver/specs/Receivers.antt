@@ -16,13 +16,13 @@ pub record Receiving (P : Type 0) : Type 0 where
 abbrev pub batches : (ℕ → ℕ → ℕ) → ℕ → Batches
 batches quotas greatest = record { quota = quotas; greatest = greatest }
 
--- what the state machine answers to a call
-abbrev pub answer_to : {P : Type 0} → Batches → Call → Receiving P → Result Answer Refusal
-answer_to p c r = (call p c r.state).0
+-- what the state machine answers to a call, under the policy that the receiver has
+abbrev pub answer_to : {P : Type 0} → (P → ℕ → ℕ → ℕ) → ℕ → Call → Receiving P → Result Answer Refusal
+answer_to quotas greatest c r = (call (batches (quotas r.policy) greatest) c r.state).0
 
 -- the receiver after it: the state is the machine's, and the policy as it was
-abbrev pub after : {P : Type 0} → Batches → Call → Receiving P → Receiving P
-after p c r = record r { state = (call p c r.state).1 }
+abbrev pub after : {P : Type 0} → (P → ℕ → ℕ → ℕ) → ℕ → Call → Receiving P → Receiving P
+after quotas greatest c r = record r { state = (call (batches (quotas r.policy) greatest) c r.state).1 }
 
 -- a result of a call's own, as one of all answers
 abbrev pub answered : {R : Type 0} → (R → Answer) → Result R Refusal → Result Answer Refusal

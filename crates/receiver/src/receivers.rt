@@ -3,7 +3,7 @@ ghost use Rattle.std.specs.Result.{result_map_both};
 ghost use Rattle.machine.specs.State.{idle};
 ghost use Rattle.machine.specs.declared.answers.Answer.TheVariants.{Configured, Arrived, Stepped, Worked, Fetched, Finished, Discarded, Told};
 ghost use Rattle.machine.specs.declared.calls.Call.TheVariants.{Configure, Arrive, Step, Work, Fetch, Finish, Discard, Tell};
-ghost use Rattle.receiver.specs.Receivers.{batches, answer_to, after, answered};
+ghost use Rattle.receiver.specs.Receivers.{answer_to, after, answered};
 
 use crate::cores::Core;
 use crate::receipts::{Receipt, Unspent};
@@ -47,8 +47,8 @@ impl<B: Board, P: Policy> Receiver<B, P> {
 
     /// Configures the receiver, once.
     pub fn configure(&mut self, numbers: RawSettings) -> Result<(), Refusal>
-        ensures value { answered (λ _. Configured) result ≡ answer_to (batches (P.quotas self.old.policy) P.GREATEST) (Configure numbers) self.old }
-        ensures after { self.new ≡ after (batches (P.quotas self.old.policy) P.GREATEST) (Configure numbers) self.old }
+        ensures value { answered (λ _. Configured) result ≡ answer_to P.quotas P.GREATEST (Configure numbers) self.old }
+        ensures after { self.new ≡ after P.quotas P.GREATEST (Configure numbers) self.old }
     {
         if self.settings.is_some() {
             return Err(Refusal::AlreadyConfigured);
@@ -66,8 +66,8 @@ impl<B: Board, P: Policy> Receiver<B, P> {
 
     /// Numbers a packet and offers it to its bearer.
     pub fn arrive(&mut self, bearer: usize, length: usize, tag: u32) -> Result<Arrival, Refusal>
-        ensures value { answered Arrived result ≡ answer_to (batches (P.quotas self.old.policy) P.GREATEST) (Arrive bearer length tag) self.old }
-        ensures after { self.new ≡ after (batches (P.quotas self.old.policy) P.GREATEST) (Arrive bearer length tag) self.old }
+        ensures value { answered Arrived result ≡ answer_to P.quotas P.GREATEST (Arrive bearer length tag) self.old }
+        ensures after { self.new ≡ after P.quotas P.GREATEST (Arrive bearer length tag) self.old }
     {
         let Some(settings) = self.settings else {
             return Err(Refusal::NotConfigured);
@@ -81,8 +81,8 @@ impl<B: Board, P: Policy> Receiver<B, P> {
 
     /// Goes on with the polling: begins a grant, takes a packet by it, or closes it.
     pub fn step(&mut self) -> Result<Progress, Refusal>
-        ensures value { answered Stepped result ≡ answer_to (batches (P.quotas self.old.policy) P.GREATEST) Step self.old }
-        ensures after { self.new ≡ after (batches (P.quotas self.old.policy) P.GREATEST) Step self.old }
+        ensures value { answered Stepped result ≡ answer_to P.quotas P.GREATEST Step self.old }
+        ensures after { self.new ≡ after P.quotas P.GREATEST Step self.old }
     {
         let Some(settings) = self.settings else {
             return Err(Refusal::NotConfigured);
@@ -96,8 +96,8 @@ impl<B: Board, P: Policy> Receiver<B, P> {
 
     /// Offers cycles to the application.
     pub fn work(&mut self, cycles: u64) -> Result<(), Refusal>
-        ensures value { answered (λ _. Worked) result ≡ answer_to (batches (P.quotas self.old.policy) P.GREATEST) (Work cycles) self.old }
-        ensures after { self.new ≡ after (batches (P.quotas self.old.policy) P.GREATEST) (Work cycles) self.old }
+        ensures value { answered (λ _. Worked) result ≡ answer_to P.quotas P.GREATEST (Work cycles) self.old }
+        ensures after { self.new ≡ after P.quotas P.GREATEST (Work cycles) self.old }
     {
         let Some(settings) = self.settings else {
             return Err(Refusal::NotConfigured);
@@ -111,9 +111,9 @@ impl<B: Board, P: Policy> Receiver<B, P> {
 
     /// Hands over the queue's first packet, and its receipt.
     pub fn fetch(&mut self) -> Result<(Packet, Receipt), Refusal>
-        ensures value { answered (λ r. Fetched r.0) result ≡ answer_to (batches (P.quotas self.old.policy) P.GREATEST) Fetch self.old }
+        ensures value { answered (λ r. Fetched r.0) result ≡ answer_to P.quotas P.GREATEST Fetch self.old }
         ensures receipt { IfOk result (λ r. r.1 ≡ record { number = r.0.number; spent = false }) }
-        ensures after { self.new ≡ after (batches (P.quotas self.old.policy) P.GREATEST) Fetch self.old }
+        ensures after { self.new ≡ after P.quotas P.GREATEST Fetch self.old }
     {
         let Some(settings) = self.settings else {
             return Err(Refusal::NotConfigured);
@@ -127,9 +127,9 @@ impl<B: Board, P: Policy> Receiver<B, P> {
 
     /// Spends a receipt: its packet is delivered.
     pub fn finish(&mut self, receipt: Receipt) -> Result<(), Unspent>
-        ensures value { result_map_both (λ _. Finished) (λ u. u.refusal) result ≡ answer_to (batches (P.quotas self.old.policy) P.GREATEST) (Finish receipt.number) self.old }
+        ensures value { result_map_both (λ _. Finished) (λ u. u.refusal) result ≡ answer_to P.quotas P.GREATEST (Finish receipt.number) self.old }
         ensures receipt { IfErr result (λ u. u.receipt ≡ receipt) }
-        ensures after { self.new ≡ after (batches (P.quotas self.old.policy) P.GREATEST) (Finish receipt.number) self.old }
+        ensures after { self.new ≡ after P.quotas P.GREATEST (Finish receipt.number) self.old }
     {
         if let Err(refusal) = self.core.finish(receipt.number()) {
             return Err(receipt.refused(refusal));
@@ -140,9 +140,9 @@ impl<B: Board, P: Policy> Receiver<B, P> {
 
     /// Spends a receipt: its packet is dropped, as discarded.
     pub fn discard(&mut self, receipt: Receipt) -> Result<(), Unspent>
-        ensures value { result_map_both (λ _. Discarded) (λ u. u.refusal) result ≡ answer_to (batches (P.quotas self.old.policy) P.GREATEST) (Discard receipt.number) self.old }
+        ensures value { result_map_both (λ _. Discarded) (λ u. u.refusal) result ≡ answer_to P.quotas P.GREATEST (Discard receipt.number) self.old }
         ensures receipt { IfErr result (λ u. u.receipt ≡ receipt) }
-        ensures after { self.new ≡ after (batches (P.quotas self.old.policy) P.GREATEST) (Discard receipt.number) self.old }
+        ensures after { self.new ≡ after P.quotas P.GREATEST (Discard receipt.number) self.old }
     {
         if let Err(refusal) = self.core.discard(receipt.number()) {
             return Err(receipt.refused(refusal));
@@ -153,7 +153,7 @@ impl<B: Board, P: Policy> Receiver<B, P> {
 
     /// Reads every count, the periods closed, and the record of the last.
     pub fn tell(&self) -> Report
-        ensures value { Ok (Told result) ≡ answer_to (batches (P.quotas self.now.policy) P.GREATEST) Tell self.now }
+        ensures value { Ok (Told result) ≡ answer_to P.quotas P.GREATEST Tell self.now }
     {
         self.core.tell()
     }

@@ -13,8 +13,9 @@ use Rattle.machine.proofs.Turns.{equal_turns}
 use Rattle.machine.specs.State.{idle}
 use Rattle.receiver.specs.declared.receipts.Receipt.{Receipt}
 use Rattle.receiver.specs.Receivers.{batches}
+use Rattle.receiver.proofs.Called.{bounded}
 use Rattle.conduct.specs.Lists.{Keeps, after_list, receipts_of}
-use Rattle.conduct.proofs.Keeping.{bounded, keeps, ledger_out}
+use Rattle.conduct.proofs.Keeping.{keeps, ledger_out}
 use Rattle.conduct.proofs.lists.conduct.Goals as goal
 
 -- a law that always holds is kept by the calls that were made

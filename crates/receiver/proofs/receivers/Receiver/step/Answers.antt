@@ -1,46 +1,19 @@
-use Rattle.std.proofs.Common.{◌∙◌, ap, Err, Ok, refl, Option}
-use Rattle.std.proofs.lemmas.Result.{err_from_is_err_and}
+use Rattle.std.proofs.Common.{refl, rules}
 use Rattle.machine.specs.declared.answers.Answer.TheVariants.{Stepped}
 use Rattle.machine.specs.declared.calls.Call.TheVariants.{Step}
-use Rattle.machine.specs.State.{running, Batches}
-use Rattle.machine.specs.Machine.{call, step_checks, step_by}
-use Rattle.receiver.specs.declared.settings.Settings.{Settings}
 use Rattle.receiver.specs.Settings.{raw}
-use Rattle.receiver.specs.Sound.{state_of}
-use Rattle.receiver.specs.Receivers.{batches, answered}
-use Rattle.receiver.proofs.Called.{Comes, comes_refused, comes_accepted, answers, shows, stays, settled, sound, gated}
+use Rattle.machine.specs.Machine.{call}
+use Rattle.receiver.proofs.Called.{declines, refuses, settled, leaves_sound, accepts}
 use Rattle.receiver.proofs.Roomy.{step_joins, step_opens}
-use Rattle.receiver.proofs.receivers.Receiver.step.Given as given
 use Rattle.receiver.proofs.receivers.Receiver.step.Goals as goal
 
-pub returns-in_default-clause-value : goal.returns-in_default-clause-value
+pub returns-in_default : goal.returns-in_default
 unfolding call
-returns-in_default-clause-value g c =
-    answers g.P.Policy.quotas g.P.Policy.GREATEST c.self.inside.policy c.self.inside.core c.self.view_is c.in_default.is (Step) refl
+returns-in_default g c = declines g.P.Policy.quotas g.P.Policy.GREATEST c.self.inside.core c.self.view_is c.in_default.is Step refl
 
-pub returns-in_default-clause-after : goal.returns-in_default-clause-after
-unfolding call
-returns-in_default-clause-after g c =
-    stays g.P.Policy.quotas g.P.Policy.GREATEST c.self.inside.policy c.self.inside.core c.self.view_is c.in_default.is (Step) refl
-
--- a call that its checks refuse
-refused : (g : given.Over) (c : goal.After-from_residual g) →
-    Comes (batches (g.P.Policy.quotas c.self.inside.policy) g.P.Policy.GREATEST) (Step) (running (raw c.in-Some.settings) c.self.inside.core) (Err c.in_err-check_step.field-0.0) (running (raw c.in-Some.settings) c.self.inside.core)
-refused g c =
-    let x = c.self.inside.core in
-    let s = raw c.in-Some.settings in
-    let p : Batches = batches (g.P.Policy.quotas c.self.inside.policy) g.P.Policy.GREATEST in
-    comes_refused p s x (Step) (step_checks s x x.grant) (step_by s p x.grant x) refl c.in_err-check_step.field-0.0 c.in_err-check_step.ensures.value
-
-pub returns-in_err-check_step-clause-value : goal.returns-in_err-check_step-clause-value
-returns-in_err-check_step-clause-value g c =
-    let e = err_from_is_err_and c.from_residual.result c.from_residual.ensures.1 in
-    ap (answered (Stepped)) (e.1 ∙ ap Err e.2)
-    ∙ answers g.P.Policy.quotas g.P.Policy.GREATEST c.self.inside.policy c.self.inside.core c.self.view_is c.in-Some.is (Step) (refused g c)
-
-pub returns-in_err-check_step-clause-after : goal.returns-in_err-check_step-clause-after
-returns-in_err-check_step-clause-after g c =
-    stays g.P.Policy.quotas g.P.Policy.GREATEST c.self.inside.policy c.self.inside.core c.self.view_is c.in-Some.is (Step) (refused g c)
+pub returns-in_err-check_step : goal.returns-in_err-check_step
+returns-in_err-check_step g c =
+    refuses g.P.Policy.quotas g.P.Policy.GREATEST c.self.inside.core c.self.view_is c.in-Some.is Step Stepped (search rules) c.in_err-check_step.ensures.value
 
 pub step-progress-requires-clause-room : goal.step-progress-requires-clause-room
 step-progress-requires-clause-room g c =
@@ -51,24 +24,12 @@ pub set_gate-requires : goal.set_gate-requires
 set_gate-requires g c =
     record { openable = step_opens _ (raw c.in-Some.settings) c.self.inside.core (settled c.in-Some.is c.self.invariant).0 _ c.in_ok-check_step.ensures.value c.step-progress.ensures.after }
 
--- a call that is accepted
-accepted : (g : given.Over) (c : goal.After-set_gate g) →
-    Comes (batches (g.P.Policy.quotas c.self.inside.policy) g.P.Policy.GREATEST) (Step) (running (raw c.in-Some.settings) c.self.inside.core) (Ok (Stepped c.step-progress.result)) (running (raw c.in-Some.settings) c.set_gate.new.self)
-accepted g c =
-    let x = c.self.inside.core in
-    let s = raw c.in-Some.settings in
-    let p : Batches = batches (g.P.Policy.quotas c.self.inside.policy) g.P.Policy.GREATEST in
-    comes_accepted p s x (Step) (step_checks s x x.grant) (step_by s p x.grant x) refl _ c.set_gate.new.self c.in_ok-check_step.ensures.value c.step-progress.ensures.value
-    (gated s x (step_by s p x.grant x).1 c.set_gate.ensures.after c.is_open-was_open.ensures.value c.step-progress.ensures.after)
-
 pub invariant_of-self : goal.invariant_of-self
 invariant_of-self g c =
-    sound (g.P.Policy.quotas c.self.inside.policy) g.P.Policy.GREATEST (g.met.P.Policy.range.1, g.met.P.Policy.bounds c.self.inside.policy) (Step) c.self.inside.core c.in-Some.is c.self.invariant (accepted g c)
+    leaves_sound g.P.Policy.quotas g.P.Policy.GREATEST c.self.inside.core c.self.view_is c.in-Some.is Step (g.met.P.Policy.bounds c.self.inside.policy) g.met.P.Policy.range c.self.invariant
+    c.in_ok-check_step.ensures.value c.is_open-was_open.ensures.value c.step-progress.ensures.after c.set_gate.ensures.after
 
-pub returns-clause-value : goal.returns-clause-value
-returns-clause-value g c = answers g.P.Policy.quotas g.P.Policy.GREATEST c.self.inside.policy c.self.inside.core c.self.view_is c.in-Some.is (Step) (accepted g c)
-
-pub returns-clause-after : goal.returns-clause-after
-returns-clause-after g c =
-    shows g.P.Policy.quotas g.P.Policy.GREATEST c.self.inside.policy c.self.inside.core c.self.view_is c.in-Some.is (Step) (accepted g c)
-    (ap (λ (o : Option Settings). state_of o c.set_gate.new.self) c.in-Some.is)
+pub returns : goal.returns
+returns g c =
+    accepts g.P.Policy.quotas g.P.Policy.GREATEST c.self.inside.core c.self.view_is c.in-Some.is Step (g.met.P.Policy.bounds c.self.inside.policy) g.met.P.Policy.range c.self.invariant
+    c.in_ok-check_step.ensures.value c.is_open-was_open.ensures.value c.step-progress.ensures.after c.set_gate.ensures.after (Stepped c.step-progress.result) c.step-progress.ensures.value
