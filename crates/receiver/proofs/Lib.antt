@@ -2,8 +2,8 @@ pub mod Armed
 pub mod Called
 pub mod Configured
 pub mod Each
-pub mod Listed
 pub mod Roomy
+pub mod Searches
 pub mod Sizes
 pub mod Surveys
 pub mod Unconfigured

@@ -1,5 +1,5 @@
-pub mod Able
 pub mod Empty
+pub mod Figures
 pub mod Held
 pub mod Places
 pub mod Receivers

@@ -1,4 +1,4 @@
--- Settings as the plain numbers that they were made from, and what passes a list of checks.
+-- Settings as the plain numbers that they were made from.
 use Rattle.machine.specs.declared.calls.RawSettings.{RawSettings}
 use Rattle.receiver.specs.declared.settings.Settings.{Settings}
 

@@ -8,7 +8,7 @@ ghost use Rattle.machine.specs.Checks.{first_refusal};
 ghost use Rattle.machine.specs.Machine.{any_left, out_checks, step_by};
 ghost use Rattle.machine.specs.Numbers.{without};
 ghost use Rattle.machine.specs.Calls.{next_packet, arrive, begin, has_queue_room, queued, take_by, close, serve, fetch, finish, discard};
-ghost use Rattle.receiver.specs.Able.{Timely, Counted};
+ghost use Rattle.receiver.specs.Figures.{Timely, Counted};
 ghost use Rattle.receiver.specs.Held.{grant_of};
 ghost use Rattle.receiver.specs.Places.{StandsAt};
 ghost use Rattle.receiver.specs.Receivers.{batches};
@@ -182,7 +182,7 @@ impl<B: Board> Core<B> {
     }
 
     /// Where a number stands among those that are out.
-    #[tactic(auto, using(crate::proofs::Listed::held_here, crate::proofs::Listed::held_further, crate::proofs::Listed::left_here, crate::proofs::Listed::left_further))]
+    #[tactic(auto, using(crate::proofs::Searches::held_here, crate::proofs::Searches::held_further, crate::proofs::Searches::left_here, crate::proofs::Searches::left_further))]
     fn place_out(&self, number: u32) -> Option<usize>
         ensures value { StandsAt number self.now.out result }
     {

@@ -4,7 +4,7 @@ ghost use Rattle.machine.specs.declared.refusals.Refusal.TheVariants.{NoShare};
 ghost use Rattle.machine.specs.Checks.{first_refusal};
 ghost use Rattle.machine.specs.Settings.{highest_cost, grant_bound};
 ghost use Rattle.machine.specs.Machine.{not_retired, waiting_checks, arrive_checks, step_checks, work_checks, fetch_checks};
-ghost use Rattle.receiver.specs.Able.{Timely};
+ghost use Rattle.receiver.specs.Figures.{Timely};
 ghost use Rattle.receiver.specs.Held.{grant_of};
 ghost use Rattle.receiver.specs.Receivers.{batches};
 ghost use Rattle.receiver.specs.Settings.{raw};

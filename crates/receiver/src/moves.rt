@@ -3,7 +3,7 @@ ghost use Rattle.board.specs.Bearers.{any_waiting};
 ghost use Rattle.machine.specs.State.{waits, busy, is_open};
 ghost use Rattle.machine.specs.Numbers.{holds};
 ghost use Rattle.machine.specs.Moves.{arm, disarm, join, settle, charge, offer_cycles, open_bearer};
-ghost use Rattle.receiver.specs.Able.{Timely};
+ghost use Rattle.receiver.specs.Figures.{Timely};
 ghost use Rattle.receiver.specs.Settings.{raw};
 
 use crate::clocks::Clock;

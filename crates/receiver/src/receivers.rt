@@ -134,6 +134,7 @@ impl<B: Board, P: Policy> Receiver<B, P> {
         if let Err(refusal) = self.core.finish(receipt.number()) {
             return Err(receipt.refused(refusal));
         }
+        // Neither used nor the hold has changed, so the gate stays.
         receipt.spend();
         Ok(())
     }
@@ -147,6 +148,7 @@ impl<B: Board, P: Policy> Receiver<B, P> {
         if let Err(refusal) = self.core.discard(receipt.number()) {
             return Err(receipt.refused(refusal));
         }
+        // The gate stays, as above.
         receipt.spend();
         Ok(())
     }

@@ -1,5 +1,5 @@
 use Rattle.std.proofs.Common.{arith, sym, ◌∙◌}
-use Rattle.receiver.proofs.Listed.{held_here, held_further}
+use Rattle.receiver.proofs.Searches.{held_here, held_further}
 use Rattle.receiver.proofs.cores.Core.is_listed.Goals as goal
 
 pub returns-then-eq : goal.returns-then-eq

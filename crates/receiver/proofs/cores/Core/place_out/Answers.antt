@@ -1,6 +1,6 @@
 use Rattle.std.proofs.Common.{arith, sym, ap, ◌∙◌, ◌≡◌, ◌<◌, length, get_or, Some}
 use Rattle.std.proofs.lemmas.Option.{slice_get-get_or}
-use Rattle.receiver.proofs.Listed.{held_here, left_here}
+use Rattle.receiver.proofs.Searches.{held_here, left_here}
 use Rattle.receiver.proofs.cores.Core.place_out.Goals as goal
 
 pub returns-then-deref-i : goal.returns-then-deref-i

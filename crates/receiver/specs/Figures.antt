@@ -1,4 +1,4 @@
--- What the fixed memory of a receiver asks: cycles, counts and periods small enough that a call can add to them.
+-- What the fixed memory of a receiver asks of its figures: small enough that a call can add to them.
 use Rattle.std.specs.Prelude.{◌≤◌}
 use Rattle.machine.specs.declared.answers.Counts.{Counts}
 use Rattle.machine.specs.State.{Clock}
