@@ -12,6 +12,8 @@ mod moves;
 mod receipts;
 mod receivers;
 mod settings;
+#[cfg(test)]
+mod tests;
 
 pub use receipts::{Receipt, Unspent};
 pub use receivers::Receiver;
