@@ -15,11 +15,14 @@ ghost use Rattle.receiver.specs.Receivers.{batches};
 ghost use Rattle.receiver.specs.Settings.{raw};
 
 use crate::clocks::Grant;
-use crate::cores::Core;
+use crate::cores::{BEGIN_CHARGE, Core};
 use crate::settings::Settings;
 use board::{Board, Packet, class_cost};
 use machine::{Arrival, Progress, Refusal};
 use policy::Policy;
+
+/// Cycles that an arrival is charged whose bearer signals.
+const SIGNAL_CHARGE: u64 = 60;
 
 impl<B: Board> Core<B> {
     /// Numbers a packet and offers it to its bearer, which joins the poll list if that raises its signal.
@@ -46,7 +49,7 @@ impl<B: Board> Core<B> {
         } else if self.board.signal(bearer) {
             self.disarm(bearer);
             self.join(bearer);
-            self.charge(settings, 60);
+            self.charge(settings, SIGNAL_CHARGE);
         }
         Arrival { number, accepted }
     }
@@ -66,7 +69,7 @@ impl<B: Board> Core<B> {
             bearer,
             left: quota,
         });
-        self.charge(settings, 80);
+        self.charge(settings, u64::from(BEGIN_CHARGE));
         Progress::Begun { bearer, quota }
     }
 
@@ -78,6 +81,7 @@ impl<B: Board> Core<B> {
     {
         let room = self.queue.len() < settings.size;
         if room {
+            // Not refused: S is at most the queue's slots.
             let _ = self.queue.push(packet);
         } else {
             self.counts.queue_full += 1;

@@ -9,13 +9,16 @@ ghost use Rattle.receiver.specs.Held.{grant_of};
 ghost use Rattle.receiver.specs.Receivers.{batches};
 ghost use Rattle.receiver.specs.Settings.{raw};
 
-use crate::cores::Core;
+use crate::cores::{BEGIN_CHARGE, Core, MOST_OUT};
 use crate::settings::Settings;
 use board::Board;
 use machine::Refusal;
 
 /// Packets numbered, or periods closed, after which a receiver is retired.
 const RETIREMENT: u32 = 1_000_000_000;
+
+/// The class cost of the longest packets.
+const HIGHEST_CLASS_COST: u32 = 1_360;
 
 impl<B: Board> Core<B> {
     fn check_age(&self) -> Result<(), Refusal>
@@ -80,7 +83,7 @@ impl<B: Board> Core<B> {
         if self.queue.len() == 0 {
             return Err(Refusal::NoneQueued);
         }
-        if self.out.len() >= 16 {
+        if self.out.len() >= MOST_OUT {
             return Err(Refusal::AllOut);
         }
         Ok(())
@@ -117,7 +120,7 @@ impl<B: Board> Core<B> {
         requires greatest { greatest ≤ 64 }
         ensures value { (quotas : ℕ → ℕ → ℕ) → result_err result ≡ first_refusal ((nat_le (settings.now.limit + grant_bound (batches quotas greatest) self.now.bearers) settings.now.period, NoShare) ∷ []) }
     {
-        let grant_bound = 80 + greatest * (self.highest_cost() + 1_360);
+        let grant_bound = BEGIN_CHARGE + greatest * (self.highest_cost() + HIGHEST_CLASS_COST);
         if settings.limit + u64::from(grant_bound) > settings.period {
             return Err(Refusal::NoShare);
         }

@@ -10,6 +10,12 @@ use machine::{Counts, Report};
 use ring::Queue;
 use std::marker::Model;
 
+/// Cycles that the begin of a grant is charged.
+pub const BEGIN_CHARGE: u32 = 80;
+
+/// No more packets are out than this.
+pub const MOST_OUT: usize = 16;
+
 /// All that a receiver holds beside its policy and its settings.
 #[derive(Drop)]
 pub struct Core<B: Board> {
@@ -23,7 +29,7 @@ pub struct Core<B: Board> {
     /// Packets for the application.
     pub queue: Queue<Packet, 64>,
     /// The numbers of packets fetched, and not yet finished or discarded.
-    pub out: ArrayVec<u32, 16>,
+    pub out: ArrayVec<u32, MOST_OUT>,
     pub counts: Counts,
 }
 

@@ -44,6 +44,7 @@ impl<B: Board> Core<B> {
         requires room { length self.old.listed < 8 }
         ensures after { self.new ≡ join bearer self.old }
     {
+        // Not refused: no bearer is listed twice, and a board shows no more than eight.
         let _ = self.listed.push(bearer);
     }
 
