@@ -27,7 +27,13 @@ const SIGNAL_CHARGE: u64 = 60;
 impl<B: Board> Core<B> {
     /// Numbers a packet and offers it to its bearer, which joins the poll list if that raises its signal.
     #[tactic(auto, unfolding(machine::specs::Calls::arrive))]
-    pub fn arrive(&mut self, settings: &Settings, bearer: usize, octets: usize, tag: u32) -> Arrival
+    pub(crate) fn arrive(
+        &mut self,
+        settings: &Settings,
+        bearer: usize,
+        octets: usize,
+        tag: u32,
+    ) -> Arrival
         requires time { Timely self.old.clock }
         requires offered { self.old.clock.offered ≤ settings.now.period }
         requires counts { Counted self.old.counts }
@@ -154,7 +160,7 @@ impl<B: Board> Core<B> {
     }
 
     /// Goes on with the polling: with the grant that runs, or by beginning the next.
-    pub fn step<P: Policy>(&mut self, settings: &Settings, policy: &P) -> Progress
+    pub(crate) fn step<P: Policy>(&mut self, settings: &Settings, policy: &P) -> Progress
         requires time { Timely self.old.clock }
         requires offered { self.old.clock.offered ≤ settings.now.period }
         requires counts { Counted self.old.counts }
@@ -171,7 +177,7 @@ impl<B: Board> Core<B> {
 
     /// Hands over the queue's first packet.
     #[tactic(auto, unfolding(machine::specs::Calls::fetch))]
-    pub fn fetch(&mut self, settings: &Settings) -> Packet
+    pub(crate) fn fetch(&mut self, settings: &Settings) -> Packet
         requires queued { any_left self.old.queue ≡ true }
         requires room { length self.old.out < 16 }
         ensures value { Fetched result ≡ (fetch (raw settings.now) self.old).0 }
@@ -214,7 +220,7 @@ impl<B: Board> Core<B> {
     }
 
     /// Counts the packet of a number that is out as delivered.
-    pub fn finish(&mut self, number: u32) -> Result<(), Refusal>
+    pub(crate) fn finish(&mut self, number: u32) -> Result<(), Refusal>
         requires counts { Counted self.old.counts }
         ensures value { result_err result ≡ first_refusal (out_checks number self.old) }
         ensures after { OnOk result (self.new ≡ (finish number self.old).1) }
@@ -226,7 +232,7 @@ impl<B: Board> Core<B> {
     }
 
     /// Counts the packet of a number that is out as discarded.
-    pub fn discard(&mut self, number: u32) -> Result<(), Refusal>
+    pub(crate) fn discard(&mut self, number: u32) -> Result<(), Refusal>
         requires counts { Counted self.old.counts }
         ensures value { result_err result ≡ first_refusal (out_checks number self.old) }
         ensures after { OnOk result (self.new ≡ (discard number self.old).1) }

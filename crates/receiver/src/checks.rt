@@ -30,7 +30,7 @@ impl<B: Board> Core<B> {
         Ok(())
     }
 
-    pub fn check_arrive(&self, bearer: usize, octets: usize) -> Result<(), Refusal>
+    pub(crate) fn check_arrive(&self, bearer: usize, octets: usize) -> Result<(), Refusal>
         ensures value { result_err result ≡ first_refusal (arrive_checks bearer octets self.now) }
     {
         self.check_age()?;
@@ -43,7 +43,7 @@ impl<B: Board> Core<B> {
         Ok(())
     }
 
-    pub fn check_step(&self, settings: &Settings) -> Result<(), Refusal>
+    pub(crate) fn check_step(&self, settings: &Settings) -> Result<(), Refusal>
         ensures value { result_err result ≡ first_refusal (step_checks (raw settings.now) self.now self.now.grant) }
     {
         self.check_age()?;
@@ -62,7 +62,7 @@ impl<B: Board> Core<B> {
         Ok(())
     }
 
-    pub fn check_work(&self, settings: &Settings, cycles: u64) -> Result<(), Refusal>
+    pub(crate) fn check_work(&self, settings: &Settings, cycles: u64) -> Result<(), Refusal>
         requires time { Timely self.now.clock }
         ensures value { result_err result ≡ first_refusal (work_checks (raw settings.now) cycles self.now) }
     {
@@ -77,7 +77,7 @@ impl<B: Board> Core<B> {
         Ok(())
     }
 
-    pub fn check_fetch(&self) -> Result<(), Refusal>
+    pub(crate) fn check_fetch(&self) -> Result<(), Refusal>
         ensures value { result_err result ≡ first_refusal (fetch_checks self.now) }
     {
         if self.queue.len() == 0 {
@@ -91,7 +91,7 @@ impl<B: Board> Core<B> {
 
     /// Refuses where a packet waits on the board, in the first such bearer.
     #[tactic(auto, using(crate::proofs::Surveys::waits_not, crate::proofs::Surveys::waits_here, crate::proofs::Surveys::none_waits))]
-    pub fn check_waiting(&self) -> Result<(), Refusal>
+    pub(crate) fn check_waiting(&self) -> Result<(), Refusal>
         ensures value { result_err result ≡ first_refusal (waiting_checks 0 self.now.bearers) }
     {
         for bearer in 0..self.board.size() {
@@ -116,7 +116,7 @@ impl<B: Board> Core<B> {
     }
 
     /// Refuses where the limit and the grant bound together are above the period.
-    pub fn check_share(&self, settings: &Settings, greatest: u32) -> Result<(), Refusal>
+    pub(crate) fn check_share(&self, settings: &Settings, greatest: u32) -> Result<(), Refusal>
         requires greatest { greatest ≤ 64 }
         ensures value { (quotas : ℕ → ℕ → ℕ) → result_err result ≡ first_refusal ((nat_le (settings.now.limit + grant_bound (batches quotas greatest) self.now.bearers) settings.now.period, NoShare) ∷ []) }
     {

@@ -18,7 +18,7 @@ pub const MOST_OUT: usize = 16;
 
 /// All that a receiver holds beside its policy and its settings.
 #[derive(Drop)]
-pub struct Core<B: Board> {
+pub(crate) struct Core<B: Board> {
     pub board: B,
     pub clock: Clock,
     /// Periods until polling goes on; 0 is no hold.
@@ -54,7 +54,7 @@ impl<B: Board> Model for Core<B> {
 
 impl<B: Board> Core<B> {
     /// Nothing, over a board.
-    pub fn new(board: B) -> Self
+    pub(crate) fn new(board: B) -> Self
         ensures value { result ≡ empty_over (B.bearers board) }
     {
         Core {
@@ -86,7 +86,7 @@ impl<B: Board> Core<B> {
     }
 
     /// Every count, the periods closed, and the record of the last.
-    pub fn tell(&self) -> Report
+    pub(crate) fn tell(&self) -> Report
         ensures value { Told result ≡ (tell self.now).0 }
     {
         Report {

@@ -20,7 +20,7 @@ impl<B: Board> Core<B> {
     }
 
     /// Disarms and then arms every bearer; nothing waits in any.
-    pub fn rearm(&mut self)
+    pub(crate) fn rearm(&mut self)
         requires empty { (b : ℕ) → any_waiting (waits self.old.bearers b) ≡ false }
         ensures after { self.new ≡ record self.old { bearers = map (λ x. after_arm false (after_disarm x)) self.old.bearers } }
         ensures few { length self.new.bearers ≤ 8 }
@@ -44,7 +44,7 @@ impl<B: Board> Core<B> {
 
     /// Sets the gate at the end of a call, by whether it was open before.
     #[tactic(auto, unfolding(machine::specs::Moves::set_gate))]
-    pub fn set_gate(&mut self, settings: &Settings, was_open: bool)
+    pub(crate) fn set_gate(&mut self, settings: &Settings, was_open: bool)
         requires openable { Openable (length self.old.bearers) self.old }
         ensures after { (x : Held) → is_open (raw settings.now) x ≡ was_open → self.new ≡ set_gate (raw settings.now) x self.old }
     {

@@ -14,7 +14,7 @@ use machine::Period;
 
 impl<B: Board> Core<B> {
     /// Whether the gate is open.
-    pub fn is_open(&self, settings: &Settings) -> bool
+    pub(crate) fn is_open(&self, settings: &Settings) -> bool
         ensures value { result ≡ is_open (raw settings.now) self.now }
     {
         self.clock.used < settings.limit && self.hold == 0
@@ -40,7 +40,7 @@ impl<B: Board> Core<B> {
     }
 
     /// Puts a bearer at the poll list's back.
-    pub fn join(&mut self, bearer: usize)
+    pub(crate) fn join(&mut self, bearer: usize)
         requires room { length self.old.listed < 8 }
         ensures after { self.new ≡ join bearer self.old }
     {
@@ -48,14 +48,14 @@ impl<B: Board> Core<B> {
         let _ = self.listed.push(bearer);
     }
 
-    pub fn disarm(&mut self, bearer: usize)
+    pub(crate) fn disarm(&mut self, bearer: usize)
         ensures after { self.new ≡ disarm bearer self.old }
     {
         self.board.disarm(bearer);
     }
 
     /// Arms a bearer in which nothing waits.
-    pub fn arm(&mut self, bearer: usize)
+    pub(crate) fn arm(&mut self, bearer: usize)
         requires empty { any_waiting (waits self.old.bearers bearer) ≡ false }
         ensures after { self.new ≡ arm bearer self.old }
     {
@@ -63,7 +63,7 @@ impl<B: Board> Core<B> {
     }
 
     /// Arms a bearer that is not busy, or lists it if packets wait.
-    pub fn open_bearer(&mut self, bearer: usize)
+    pub(crate) fn open_bearer(&mut self, bearer: usize)
         requires room { busy self.old bearer ≡ false → length self.old.listed < 8 }
         ensures after { self.new ≡ open_bearer bearer self.old }
     {
@@ -103,7 +103,7 @@ impl<B: Board> Core<B> {
     }
 
     /// Counts cycles that a bearer uses.
-    pub fn charge(&mut self, settings: &Settings, cycles: u64)
+    pub(crate) fn charge(&mut self, settings: &Settings, cycles: u64)
         requires cycles { cycles ≤ 1000000000 }
         requires time { Timely self.old.clock }
         requires offered { self.old.clock.offered ≤ settings.now.period }
@@ -115,7 +115,7 @@ impl<B: Board> Core<B> {
     }
 
     /// Counts cycles that the application is offered.
-    pub fn offer_cycles(&mut self, settings: &Settings, cycles: u64)
+    pub(crate) fn offer_cycles(&mut self, settings: &Settings, cycles: u64)
         requires time { Timely self.old.clock }
         requires offered { self.old.clock.offered + cycles ≤ settings.now.period }
         ensures after { self.new ≡ offer_cycles (raw settings.now) cycles self.old }
