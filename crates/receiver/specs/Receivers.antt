@@ -4,7 +4,7 @@ use Rattle.std.specs.Result.{result_map_both}
 use Rattle.machine.specs.declared.answers.Answer.{Answer}
 use Rattle.machine.specs.declared.calls.Call.{Call}
 use Rattle.machine.specs.declared.refusals.Refusal.{Refusal}
-use Rattle.machine.specs.State.{State, Batches}
+use Rattle.machine.specs.State.{State, idle, running, Batches}
 use Rattle.machine.specs.Machine.{call}
 
 -- its policy as it is, and all else as the state machine holds it
@@ -27,3 +27,8 @@ after quotas greatest c r = record r { state = (call (batches (quotas r.policy) 
 -- a result of a call's own, as one of all answers
 abbrev pub answered : {R : Type 0} → (R → Answer) → Result R Refusal → Result Answer Refusal
 answered as_answer = result_map_both as_answer (λ r. r)
+
+-- the cycles elapsed in the open period; before it is configured, none
+abbrev pub elapsed_in : State → ℕ
+elapsed_in (idle bs) = 0
+elapsed_in (running s x) = x.clock.elapsed

@@ -85,6 +85,13 @@ impl<B: Board> Core<B> {
         }
     }
 
+    /// The cycles elapsed in the open period.
+    pub(crate) fn elapsed(&self) -> u64
+        ensures value { result ≡ self.now.clock.elapsed }
+    {
+        self.clock.elapsed
+    }
+
     /// Every count, the periods closed, and the record of the last.
     pub(crate) fn tell(&self) -> Report
         ensures value { Told result ≡ (tell self.now).0 }

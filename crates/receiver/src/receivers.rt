@@ -3,7 +3,7 @@ ghost use Rattle.std.specs.Result.{result_map_both};
 ghost use Rattle.machine.specs.State.{idle};
 ghost use Rattle.machine.specs.declared.answers.Answer.TheVariants.{Configured, Arrived, Stepped, Worked, Fetched, Finished, Discarded, Told};
 ghost use Rattle.machine.specs.declared.calls.Call.TheVariants.{Configure, Arrive, Step, Work, Fetch, Finish, Discard, Tell};
-ghost use Rattle.receiver.specs.Receivers.{answer_to, after, answered};
+ghost use Rattle.receiver.specs.Receivers.{answer_to, after, answered, elapsed_in};
 
 use crate::cores::Core;
 use crate::receipts::{Receipt, Unspent};
@@ -158,5 +158,12 @@ impl<B: Board, P: Policy> Receiver<B, P> {
         ensures value { Ok (Told result) ≡ answer_to P.quotas P.GREATEST Tell self.now }
     {
         self.core.tell()
+    }
+
+    /// The cycles elapsed in the open period; before the receiver is configured, 0. A host that plans its work asks it.
+    pub fn elapsed(&self) -> u64
+        ensures value { result ≡ elapsed_in self.now.state }
+    {
+        self.core.elapsed()
     }
 }
