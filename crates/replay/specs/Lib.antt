@@ -1,0 +1,5 @@
+pub mod ByLedger
+pub mod Fates
+pub mod Fit
+pub mod Runs
+pub mod Stages

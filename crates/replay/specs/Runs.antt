@@ -1,0 +1,44 @@
+-- A whole replay: the turns that lead from the start to a stop, and what came of it.
+use Rattle.std.specs.Prelude.{◌≡◌, ℕ, zero, suc, ◌-◌, List, [], ◌∷◌, ◌++◌, length, None}
+use Rattle.board.specs.Bearers.{Bearer}
+use Rattle.capture.specs.declared.packets.Captured.{Captured}
+use Rattle.machine.specs.declared.answers.Period.{Period}
+use Rattle.machine.specs.declared.calls.Call.{Call}
+use Rattle.machine.specs.declared.calls.Call.TheVariants.{Configure}
+use Rattle.machine.specs.Examples.{standard}
+use Rattle.machine.specs.Laws.{offered_in}
+use Rattle.machine.specs.State.{idle, Batches}
+use Rattle.machine.specs.Trace.{Entry, trace}
+use Rattle.replay.specs.declared.fates.Fallen.{Fallen}
+use Rattle.replay.specs.Fates.{fates, all_in_the_end}
+use Rattle.replay.specs.Stages.{Stage, start, closed, core, turn, Leads}
+
+-- the record of the k-th period in a trace: the cycles that it offered the application, and the rest of it
+abbrev pub record_of : List Entry → ℕ → Period
+record_of es k = record { offered = offered_in k es; network = standard.period - offered_in k es }
+
+-- the records of the first k periods
+abbrev pub records : List Entry → ℕ → List Period
+records es zero = []
+records es (suc k) = records es k ++ record_of es k ∷ []
+
+-- under a policy, over a board
+module _ (p : Batches) (bs : List Bearer) where
+  -- the replay of packets: turns, as many as calls, lead from the start to a stop
+  pub record Run (ps : List Captured) : Type 0 where
+    pub calls : List Call
+    pub stop : Stage
+    pub leads : Leads p (start bs ps) calls stop
+    pub stops : turn p stop ≡ None
+
+  -- the trace of its calls, and of configure before them
+  abbrev pub entries : List Call → List Entry
+  entries cs = trace p (idle bs) (Configure standard ∷ cs)
+
+  -- what became of each packet
+  abbrev pub outcomes : (ps : List Captured) → Run ps → List Fallen
+  outcomes ps r = all_in_the_end (core r.stop.receiver).counts.numbered (closed r.stop) 0 (fates (length ps) (entries r.calls))
+
+  -- the record of each closed period
+  abbrev pub periods : (ps : List Captured) → Run ps → List Period
+  periods ps r = records (entries r.calls) (closed r.stop)

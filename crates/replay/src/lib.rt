@@ -1,0 +1,6 @@
+//! The replay of a capture: what became of each packet, and what each period offered the application.
+#![tactic(auto)]
+
+mod fates;
+
+pub use fates::{Fallen, Fate};
