@@ -3,3 +3,4 @@ pub mod Fates
 pub mod Fit
 pub mod Runs
 pub mod Stages
+pub mod Turns

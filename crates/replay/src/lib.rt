@@ -2,5 +2,6 @@
 #![tactic(auto)]
 
 mod fates;
+mod stages;
 
 pub use fates::{Fallen, Fate};

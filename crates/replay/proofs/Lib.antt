@@ -1,0 +1,4 @@
+pub mod Gone
+pub mod Refused
+pub mod Told
+pub mod Turning

@@ -1,0 +1,293 @@
+ghost use Rattle.std.specs.Prelude.{◌≡◌, ◌<◌, ◌-◌, ℕ, true, false, None, Some, Ok, IfSome, IfNone, IfOk, OnOk, OnErr, ◌≢◌, if◌then◌else◌, is_some, is_ok, min};
+ghost use Rattle.std.specs.Option.{option_map};
+ghost use Rattle.receiver.specs.Receivers.{batches, answer_to};
+ghost use Rattle.machine.specs.declared.answers.Answer.TheVariants.{Told};
+ghost use Rattle.machine.specs.declared.calls.Call.TheVariants.{Tell, Step, Finish, Fetch, Work};
+ghost use Rattle.machine.specs.State.{running};
+ghost use Rattle.machine.specs.Examples.{standard};
+ghost use Rattle.machine.specs.Machine.{any_left, call};
+ghost use Rattle.replay.specs.Fit.{Fit};
+ghost use Rattle.replay.specs.Stages.{closed, now, to_end, next, moment, span, is_due, is_through, is_over, turn, after, first_stamp, arrival, core};
+ghost use Rattle.replay.specs.Turns.{Makes, Turned, let_go, report};
+
+use crate::fates::{Decision, Fate};
+use board::Board;
+use capture::Captured;
+use machine::{Refusal, Report};
+use policy::Policy;
+use receiver::{Receipt, Receiver};
+use std::marker::Model;
+
+/// P of the replay's receiver.
+pub(crate) const PERIOD: u64 = 64_000;
+
+/// No more periods are closed.
+pub(crate) const MOST_PERIODS: u32 = 1_000;
+
+/// Cycles in a microsecond.
+const CYCLES: u64 = 64;
+
+/// The tag that each packet arrives with.
+const TAG: u32 = 0;
+
+/// Cycles that the application spends on a packet.
+const TASK: u64 = 2_000;
+
+/// The application's packet: its receipt, and the cycles that are still to go.
+#[derive(Drop)]
+pub(crate) struct Task {
+    pub receipt: Receipt,
+    pub to_go: u64,
+}
+
+/// What a turn came to.
+#[derive(Clone, Copy)]
+pub(crate) enum Turn {
+    Stop,
+    /// A call was made, which may have decided a packet's fate.
+    Made(Option<Decision>),
+}
+
+/// A replay under way.
+pub(crate) struct Stage<'a, B: Board, P: Policy> {
+    receiver: Receiver<B, P>,
+    /// The packets still to arrive.
+    coming: &'a [Captured],
+    /// The first packet's timestamp, from which moments count.
+    first: u64,
+    task: Option<Task>,
+}
+
+impl<'a, B: Board, P: Policy> Model for Stage<'a, B, P> {
+    ghost use Rattle.replay.specs.Turns.{Playing, task_of};
+
+    ghost Value = { Playing P };
+
+    ghost view = { λ s.
+        record {
+          policy = s.receiver.policy;
+          stage = record { receiver = s.receiver.state; coming = s.coming.now; first = s.first; task = task_of s.task };
+        } };
+}
+
+impl<'a, B: Board, P: Policy> Stage<'a, B, P> {
+    /// The start, with a receiver that is just configured.
+    pub(crate) fn start(receiver: Receiver<B, P>, packets: &'a [Captured]) -> Self
+        ensures value { result ≡ record { policy = receiver.policy; stage = record { receiver = receiver.state; coming = packets.now; first = first_stamp packets.now; task = None } } }
+    {
+        Stage {
+            receiver,
+            coming: packets,
+            first: packets.first().map_or(0, |packet| packet.microseconds),
+            task: None,
+        }
+    }
+
+    /// What the receiver tells.
+    pub(crate) fn tell(&self) -> Report
+        requires fit { Fit (batches (P.quotas self.now.policy) P.GREATEST) self.now.stage }
+        ensures value { result ≡ report (core self.now.stage.receiver) }
+    {
+        self.receiver.tell()
+    }
+
+    fn now(&self) -> u64
+        requires fit { Fit (batches (P.quotas self.now.policy) P.GREATEST) self.now.stage }
+        ensures value { result ≡ now self.now.stage }
+    {
+        u64::from(self.tell().closed) * PERIOD + self.receiver.elapsed()
+    }
+
+    /// Cycles to the period's end.
+    fn to_end(&self) -> u64
+        requires fit { Fit (batches (P.quotas self.now.policy) P.GREATEST) self.now.stage }
+        ensures value { result ≡ to_end self.now.stage }
+    {
+        PERIOD - self.receiver.elapsed()
+    }
+
+    /// The moment of the next packet, if one is still to arrive.
+    fn next_moment(&self) -> Option<u64>
+        requires fit { Fit (batches (P.quotas self.now.policy) P.GREATEST) self.now.stage }
+        ensures value { result ≡ option_map (moment self.now.stage) (next self.now.stage) }
+    {
+        let next = self.coming.first()?;
+        Some(CYCLES * next.microseconds.saturating_sub(self.first))
+    }
+
+    fn is_due(&self) -> bool
+        requires fit { Fit (batches (P.quotas self.now.policy) P.GREATEST) self.now.stage }
+        ensures value { result ≡ is_due self.now.stage }
+    {
+        self.next_moment().is_some_and(|moment| moment <= self.now())
+    }
+
+    /// Cycles to the period's end or to the next packet's moment, whichever comes first.
+    fn span(&self) -> u64
+        requires fit { Fit (batches (P.quotas self.now.policy) P.GREATEST) self.now.stage }
+        ensures value { result ≡ span self.now.stage }
+    {
+        let to_end = self.to_end();
+        match self.next_moment() {
+            Some(moment) => to_end.min(moment.saturating_sub(self.now())),
+            None => to_end,
+        }
+    }
+
+    /// Whether the application's packet has no cycles to go.
+    fn is_through(&self) -> bool
+        ensures value { result ≡ is_through self.now.stage }
+    {
+        self.task.as_ref().is_some_and(|task| task.to_go == 0)
+    }
+
+    /// Whether no packet is still to arrive, and each that arrived is gone.
+    fn is_over(&self) -> bool
+        requires fit { Fit (batches (P.quotas self.now.policy) P.GREATEST) self.now.stage }
+        ensures value { result ≡ is_over self.now.stage }
+    {
+        let counts = self.tell().counts;
+        let gone = counts.delivered + counts.bearer_full + counts.queue_full + counts.discarded;
+        self.coming.is_empty() && gone == counts.numbered
+    }
+
+    /// The next packet arrives.
+    fn arrive(&mut self) -> Option<Decision>
+        requires coming { next self.old.stage ≢ None }
+        ensures after { IfSome (next self.old.stage) (λ q. Makes (batches (P.quotas self.old.policy) P.GREATEST) (arrival q) self.old result self.new) }
+    {
+        let (packet, rest) = self.coming.split_first()?;
+        self.coming = rest;
+        let arrival = self
+            .receiver
+            .arrive(packet.bearer, packet.length as usize, TAG)
+            .ok()?;
+        Decision::of_arrival(arrival)
+    }
+
+    /// The application is through with its packet.
+    fn finish(&mut self) -> Option<Decision>
+        requires fit { Fit (batches (P.quotas self.old.policy) P.GREATEST) self.old.stage }
+        ensures after { IfSome self.old.stage.task (λ t. Makes (batches (P.quotas self.old.policy) P.GREATEST) (Finish t.number) self.old result self.new) }
+    {
+        let Task { receipt, to_go: _ } = self.task.take()?;
+        let number = receipt.number();
+        self.receiver.finish(receipt).unwrap();
+        Some(Decision {
+            number,
+            fate: Fate::Delivered,
+        })
+    }
+
+    /// Goes on with the polling, unless that is refused.
+    #[tactic(auto, using(crate::proofs::Refused::stays))]
+    fn step(&mut self) -> Result<Option<Decision>, Refusal>
+        ensures value { is_ok result ≡ is_ok (call (batches (P.quotas self.old.policy) P.GREATEST) Step self.old.stage.receiver).0 }
+        ensures after { IfOk result (λ d. Makes (batches (P.quotas self.old.policy) P.GREATEST) Step self.old d self.new) }
+        ensures same { OnErr result (self.new ≡ self.old) }
+    {
+        let progress = self.receiver.step()?;
+        Ok(Decision::of_step(progress))
+    }
+
+    /// The application gets the queue's first packet, unless that is refused.
+    #[tactic(auto, using(crate::proofs::Refused::stays))]
+    fn fetch(&mut self) -> Result<(), Refusal>
+        requires fit { Fit (batches (P.quotas self.old.policy) P.GREATEST) self.old.stage }
+        requires none { self.old.stage.task ≡ None }
+        ensures value { is_ok result ≡ any_left (core self.old.stage.receiver).queue }
+        ensures after { OnOk result (Makes (batches (P.quotas self.old.policy) P.GREATEST) Fetch self.old None self.new) }
+        ensures same { OnErr result (self.new ≡ self.old) }
+    {
+        let (_packet, receipt) = self.receiver.fetch()?;
+        self.task = Some(Task {
+            receipt,
+            to_go: TASK,
+        });
+        Ok(())
+    }
+
+    /// The application works on its packet, if it has one, until something else is to be done.
+    fn work_on(&mut self) -> bool
+        requires fit { Fit (batches (P.quotas self.old.policy) P.GREATEST) self.old.stage }
+        ensures value { result ≡ is_some self.old.stage.task }
+        ensures after { IfSome self.old.stage.task (λ t. Makes (batches (P.quotas self.old.policy) P.GREATEST) (Work (min t.to_go (span self.old.stage))) self.old None self.new) }
+        ensures same { IfNone self.old.stage.task (self.new ≡ self.old) }
+    {
+        let span = self.span();
+        let Some(task) = self.task.as_mut() else {
+            return false;
+        };
+        let cycles = task.to_go.min(span);
+        task.to_go -= cycles;
+        let _ = self.receiver.work(cycles);
+        true
+    }
+
+    /// Time passes without a packet for the application, until something else is to be done.
+    fn wait(&mut self)
+        requires fit { Fit (batches (P.quotas self.old.policy) P.GREATEST) self.old.stage }
+        requires none { self.old.stage.task ≡ None }
+        ensures after { Makes (batches (P.quotas self.old.policy) P.GREATEST) (Work (span self.old.stage)) self.old None self.new }
+    {
+        let span = self.span();
+        let _ = self.receiver.work(span);
+    }
+
+    /// A turn in which nothing is due, and no step can be made.
+    fn pass(&mut self) -> Turn
+        requires fit { Fit (batches (P.quotas self.old.policy) P.GREATEST) self.old.stage }
+        requires open { closed self.old.stage < 1000 }
+        requires due { is_due self.old.stage ≡ false }
+        requires through { is_through self.old.stage ≡ false }
+        requires step { is_ok (call (batches (P.quotas self.old.policy) P.GREATEST) Step self.old.stage.receiver).0 ≡ false }
+        ensures value { Turned (batches (P.quotas self.old.policy) P.GREATEST) self.old result self.new }
+    {
+        if self.work_on() || self.fetch().is_ok() {
+            return Turn::Made(None);
+        }
+        if self.is_over() {
+            return Turn::Stop;
+        }
+        self.wait();
+        Turn::Made(None)
+    }
+
+    /// Does what is first to be done.
+    #[tactic(auto, using(crate::proofs::Turning::turning))]
+    pub(crate) fn turn(&mut self) -> Turn
+        requires fit { Fit (batches (P.quotas self.old.policy) P.GREATEST) self.old.stage }
+        ensures value { Turned (batches (P.quotas self.old.policy) P.GREATEST) self.old result self.new }
+    {
+        if self.tell().closed >= MOST_PERIODS {
+            return Turn::Stop;
+        }
+        if self.is_due() {
+            return Turn::Made(self.arrive());
+        }
+        if self.is_through() {
+            return Turn::Made(self.finish());
+        }
+        if let Ok(decision) = self.step() {
+            return Turn::Made(decision);
+        }
+        self.pass()
+    }
+
+    /// Lets the receiver go. The application's packet, if it has one, is discarded, in no turn.
+    pub(crate) fn end(self) -> Receiver<B, P>
+        requires fit { Fit (batches (P.quotas self.policy) P.GREATEST) self.stage }
+        ensures value { result ≡ record { policy = self.entry.policy; state = let_go (batches (P.quotas self.entry.policy) P.GREATEST) self.entry.stage } }
+    {
+        let Stage {
+            mut receiver,
+            coming: _,
+            first: _,
+            task,
+        } = self;
+        if let Some(Task { receipt, to_go: _ }) = task {
+            receiver.discard(receipt).unwrap();
+        }
+        receiver
+    }
+}
