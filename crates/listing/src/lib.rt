@@ -6,8 +6,9 @@ ghost use Rattle.capture.specs.Savefile.{meaning};
 ghost use Rattle.listing.specs.Listing.{printed, counted};
 
 use capture::{ReadError, Refusal, read};
-use rows::{push_row, records_table};
+use rows::records_table;
 use std::alloc::{AllocError, Global};
+use table::push_row;
 
 mod rows;
 #[cfg(test)]

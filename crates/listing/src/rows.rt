@@ -1,25 +1,12 @@
-ghost use Rattle.std.specs.Prelude.{◌≡◌, ◌++◌, is_ok, IfOk, if◌then◌else◌};
-ghost use Rattle.table.specs.Text.{row, table};
+ghost use Rattle.std.specs.Prelude.{◌≡◌, IfOk};
+ghost use Rattle.table.specs.Text.{table};
 ghost use Rattle.listing.specs.Listing.{stamped, row_of_record, records};
 
 use capture::Captured;
 use std::alloc::{AllocError, Global};
-use table::{Field, Word, put, text_len};
+use table::{Field, Word, push_row};
 
 const HEADING: [Word; 4] = [Word::Packet, Word::Bearer, Word::Length, Word::Microseconds];
-
-/// Appends the row of `fields`. Want of memory leaves the text as it was.
-#[tactic(auto, using(crate::proofs::Appended::appending))]
-pub(crate) fn push_row(text: &mut Vec<u8>, fields: &[Field]) -> Result<(), AllocError>
-    ensures items { text.new.items ≡ (if is_ok result then text.old.items ++ row fields.now else text.old.items) }
-{
-    let at = text.len();
-    let end = at.checked_add(text_len(fields)).ok_or(AllocError)?;
-    text.resize(end, 0)?;
-    // It is not refused: the text was just made long enough.
-    let _ = put(text, at, fields);
-    Ok(())
-}
 
 /// The row of the packet with this index; `first` is the first packet's timestamp.
 fn record_row(index: usize, first: u64, packet: Captured) -> [Field; 4]

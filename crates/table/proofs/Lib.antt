@@ -1,2 +1,3 @@
+mod Appended
 pub mod Columns
 pub mod Places
