@@ -1,3 +1,4 @@
+pub mod Applies
 pub mod Gone
 pub mod Refused
 pub mod Told
