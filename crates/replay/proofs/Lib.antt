@@ -1,6 +1,7 @@
 pub mod Applies
 pub mod Fits
 pub mod Gone
+pub mod Led
 pub mod Refused
 pub mod Told
 pub mod Turning

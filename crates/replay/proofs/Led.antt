@@ -1,0 +1,38 @@
+-- Turns that lead from one stage to another: where their trace ends, one more turn, and what each turn finds.
+use Rattle.std.proofs.Common.{◌≡◌, List, [], ◌∷◌, ◌++◌, Some, refl, ap, ◌∙◌, subst}
+use Rattle.machine.specs.declared.calls.Call.{Call}
+use Rattle.machine.specs.State.{Batches}
+use Rattle.machine.specs.Trace.{Entry, entry, trace, end_of}
+use Rattle.replay.specs.Stages.{Stage, turn, after, Leads}
+
+module _ (p : Batches) where
+  -- the trace of the calls ends with the receiver of the last stage
+  pub leads_end : (x : Stage) (cs : List Call) (y : Stage) → Leads p x cs y → end_of x.receiver (trace p x.receiver cs) ≡ y.receiver
+  leads_end x [] y l = ap (λ (s : Stage). s.receiver) l
+  leads_end x (c ∷ cs) y l = leads_end (after p c x) cs y l.1
+
+  -- one more turn
+  pub leads_push : (x : Stage) (cs : List Call) (y : Stage) (c : Call) → Leads p x cs y → turn p y ≡ Some c → Leads p x (cs ++ c ∷ []) (after p c y)
+  leads_push x [] y c l t = (ap (turn p) l ∙ t, ap (after p c) l)
+  leads_push x (d ∷ cs) y c l t = (l.0, leads_push (after p d x) cs y c l.1 t)
+
+  -- what turns keep
+  module _ (I : Stage → Type 0) (keep : (x : Stage) (c : Call) → I x → turn p x ≡ Some c → I (after p c x)) where
+    pub leads_keep : (x : Stage) (cs : List Call) (y : Stage) → I x → Leads p x cs y → I y
+    leads_keep x [] y i l = subst I l i
+    leads_keep x (c ∷ cs) y i l = leads_keep (after p c x) cs y (keep x c i l.0) l.1
+
+    -- an entry of the trace is what a turn's call comes to, made at a stage of which I holds
+    pub record Turned (e : Entry) : Type 0 where
+      pub stage : Stage
+      pub held : I stage
+      pub is_turn : turn p stage ≡ Some e.asked
+      pub is_entry : e ≡ entry p stage.receiver e.asked
+
+    pub each_turn : (x : Stage) (cs : List Call) (y : Stage) → I x → Leads p x cs y →
+        (before rest : List Entry) (e : Entry) → trace p x.receiver cs ≡ before ++ e ∷ rest → Turned e
+    each_turn x [] y i l [] rest e h = cc h
+    each_turn x [] y i l (d ∷ before) rest e h = cc h
+    each_turn x (c ∷ cs) y i l [] rest e h =
+        subst Turned (cc h) (record { stage = x; held = i; is_turn = l.0; is_entry = refl })
+    each_turn x (c ∷ cs) y i l (d ∷ before) rest e h = each_turn (after p c x) cs y (keep x c i l.0) l.1 before rest e (cc h)
