@@ -1,4 +1,5 @@
 pub mod Applies
+pub mod Decided
 pub mod Fits
 pub mod Gone
 pub mod Led
