@@ -17,10 +17,10 @@ module _ (p : Batches) where
   leads_push x (d ∷ cs) y c l t = (l.0, leads_push (after p d x) cs y c l.1 t)
 
   -- what turns keep
-  module _ (I : Stage → Type 0) (keep : (x : Stage) (c : Call) → I x → turn p x ≡ Some c → I (after p c x)) where
+  module _ (I : Stage → Type 0) (keep : (x : Stage) → I x → (c : Call) → turn p x ≡ Some c → I (after p c x)) where
     pub leads_keep : (x : Stage) (cs : List Call) (y : Stage) → I x → Leads p x cs y → I y
     leads_keep x [] y i l = subst I l i
-    leads_keep x (c ∷ cs) y i l = leads_keep (after p c x) cs y (keep x c i l.0) l.1
+    leads_keep x (c ∷ cs) y i l = leads_keep (after p c x) cs y (keep x i c l.0) l.1
 
     -- an entry of the trace is what a turn's call comes to, made at a stage of which I holds
     pub record Turned (e : Entry) : Type 0 where
@@ -35,4 +35,4 @@ module _ (p : Batches) where
     each_turn x [] y i l (d ∷ before) rest e h = cc h
     each_turn x (c ∷ cs) y i l [] rest e h =
         subst Turned (cc h) (record { stage = x; held = i; is_turn = l.0; is_entry = refl })
-    each_turn x (c ∷ cs) y i l (d ∷ before) rest e h = each_turn (after p c x) cs y (keep x c i l.0) l.1 before rest e (cc h)
+    each_turn x (c ∷ cs) y i l (d ∷ before) rest e h = each_turn (after p c x) cs y (keep x i c l.0) l.1 before rest e (cc h)

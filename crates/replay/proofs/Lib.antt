@@ -3,6 +3,9 @@ pub mod Decided
 pub mod Fits
 pub mod Gone
 pub mod Led
+pub mod Numbered
 pub mod Refused
+pub mod Rows
+pub mod Ruled
 pub mod Told
 pub mod Turning
