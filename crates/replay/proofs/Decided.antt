@@ -74,9 +74,9 @@ settles_arrival false b l = late
     late Waiting = refl
     late Pending = refl
 
-first_of_all : (c : List ℕ) (n : ℕ) → slice_get c 0 ≡ Some n → take 1 c ≡ n ∷ []
-first_of_all [] n h = cc h
-first_of_all (m ∷ c) n h = cc h
+front_taken : (c : List ℕ) (n : ℕ) → slice_get c 0 ≡ Some n → take 1 c ≡ n ∷ []
+front_taken [] n h = cc h
+front_taken (m ∷ c) n h = cc h
 
 settles_taken : (room : Bool) (b n : ℕ) (k : Columns) → take 1 (get_or k.waiting b []) ≡ n ∷ [] →
     Settles (dropped (Stepped (Taken n room))) k (taken_from room b k)
@@ -107,7 +107,7 @@ module _ (depths : List ℕ) (l : Ledger) where
   settles_step (Stepped Empty) t = settles_none l.columns l.columns refl refl refl
   settles_step (Stepped (Taken n room)) t =
       subst (λ r. Moves (dropped (Stepped (Taken n r))) (accepted depths Step (Stepped (Taken n room)) l)) (sym t.1)
-      (settles_taken (queue_room l) l.serving n l.columns (first_of_all (column l l.serving) n t.0))
+      (settles_taken (queue_room l) l.serving n l.columns (front_taken (column l l.serving) n t.0))
   settles_step (Stepped Rescheduled) t = settles_none l.columns l.columns refl refl refl
   settles_step (Stepped Completed) t = settles_none l.columns l.columns refl refl refl
   settles_step _ t = absurd t

@@ -38,7 +38,7 @@ refused_numbered : (c : Call) (r : Refusal) (k : ℕ) → k ≡ numbered_by c (E
 refused_numbered (Arrive b n t) r k = refl
 refused_numbered _ r k = refl
 
--- an answer to an arrival: the number that it gives
+-- an arrival, and the number that its answer gives
 pub record Arrives (c : Call) (a : Arrival) (k : ℕ) : Type 0 where
   pub bearer : ℕ
   pub length : ℕ
@@ -65,7 +65,7 @@ module _ (p : Batches) where
   pub call_numbered : (c : Call) (t : State) → numbered_in (call p c t).1 ≡ numbered_by c (call p c t).0 (numbered_in t)
   call_numbered c t = happens_numbered t (call p c t).1 c (call p c t).0 (happens p c t)
 
-  -- so an answer to an arrival gives the next number
+  -- an answer to an arrival gives the next number
   moved_arrives : (s : RawSettings) (x y : Core) (c : Call) (d : Answer) (a : Arrival) → Move s p x c d y → d ≡ Arrived a → Arrives c a x.counts.numbered
   moved_arrives s x _ _ _ a (lost i r) e = record { bearer = _; length = _; tag = _; asked = refl; number = cc e }
   moved_arrives s x _ _ _ a (stored i r h) e = record { bearer = _; length = _; tag = _; asked = refl; number = cc e }
@@ -85,7 +85,8 @@ first_left zero xs = refl
 first_left (suc k) [] = refl
 first_left (suc k) (x ∷ xs) = first_left k xs
 
--- Packets arrive in the capture's order: those that have no number are still to arrive. It takes an invariant that turns keep, with which arrivals are accepted.
+-- Packets arrive in the capture's order: those that have no number are still to arrive. It takes an invariant that turns keep, with which arrivals are
+-- accepted.
 module _ (p : Batches) (ps : List Captured) (I : Stage → Type 0)
     (keeps : (x : Stage) → I x → (c : Call) → turn p x ≡ Some c → I (after p c x))
     (arrives : (x : Stage) → I x → (q : Captured) → turn p x ≡ Some (arrival q) → (a : Arrival) × ((call p (arrival q) x.receiver).0 ≡ Ok (Arrived a))) where
@@ -97,10 +98,6 @@ module _ (p : Batches) (ps : List Captured) (I : Stage → Type 0)
   is_arrival x c (Some q) e = (q, cc e)
 
   module _ (x : Stage) (held : I x) (k : Coming x) where
-    -- nothing is numbered
-    stays : (c : Call) → numbered_in (call p c x.receiver).1 ≡ numbered_in x.receiver → x.coming ≡ drop (numbered_in (call p c x.receiver).1) ps
-    stays c e = k ∙ ap (λ n. drop n ps) (sym e)
-
     accepted : (c : Call) → turn p x ≡ Some c → (q : Captured) × (c ≡ arrival q) → is_ok (call p c x.receiver).0 ≡ true
     accepted c t q = subst (λ (d : Call). is_ok (call p d x.receiver).0 ≡ true) (sym q.1) (ap is_ok (arrives x held q.0 (t ∙ ap Some q.1)).1)
 
@@ -110,7 +107,7 @@ module _ (p : Batches) (ps : List Captured) (I : Stage → Type 0)
         let ok = accepted c t (is_arrival x c (next x) (ruled x p c t)) in
         ap (drop 1) k ∙ drop-drop 1 (numbered_in x.receiver) ps
         ∙ ap (λ n. drop n ps) (sym (call_numbered p c x.receiver ∙ ap (λ o. cond o (numbered_in x.receiver + 1) (numbered_in x.receiver)) ok))
-    coming_kept c t = stays c (call_numbered p c x.receiver)
+    coming_kept c t = k ∙ ap (λ n. drop n ps) (sym (call_numbered p c x.receiver))
 
   -- along the turns from the start
   abbrev pub Ordered : Stage → Type 0

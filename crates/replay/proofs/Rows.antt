@@ -134,46 +134,61 @@ module _ (p : Batches) (bs : List Bearer) (configured : call p (Configure standa
   entries_end ps cs y l = subst (λ t. end_of t (trace p t cs) ≡ y.receiver) (sym set_up) (leads_end p (start bs ps) cs y l)
 
   -- and nothing is discarded
+  abbrev told_on : Ledger → List Entry → Ledger
+  told_on l es = fold (λ m (e : Entry). told (depths_of bs) e.asked e.answered m) l es
+
   turns_discard : (x : Stage) (cs : List Call) (y : Stage) → Leads p x cs y → (l : Ledger) → l.columns.discarded ≡ [] →
-      (fold (λ l (e : Entry). told (depths_of bs) e.asked e.answered l) l (trace p x.receiver cs)).columns.discarded ≡ []
-  turns_discard x [] y k l d = d
-  turns_discard x (c ∷ cs) y k l d =
-      turns_discard (after p c x) cs y k.1 (told (depths_of bs) c (call p c x.receiver).0 l)
-      (told_discards (depths_of bs) c (call p c x.receiver).0 l (λ n e. subst (λ d. Ruled x (Some d)) e (ruled x p c k.0)) ∙ d)
+      (told_on l (trace p x.receiver cs)).columns.discarded ≡ []
+  turns_discard x [] y k l none = none
+  turns_discard x (c ∷ cs) y k l none =
+      let r : Result Answer Refusal = (call p c x.receiver).0 in
+      let no : (n : ℕ) → c ≡ Discard n → ⊥ = λ n e. subst (λ d. Ruled x (Some d)) e (ruled x p c k.0) in
+      turns_discard (after p c x) cs y k.1 (told (depths_of bs) c r l) (told_discards (depths_of bs) c r l no ∙ none)
 
   pub none_discarded : (ps : List Captured) (cs : List Call) (y : Stage) → Leads p (start bs ps) cs y → (ledger bs (entries p bs cs)).columns.discarded ≡ []
   unfolding ledger
-  none_discarded ps cs y l =
-      let m : Ledger = told (depths_of bs) (Configure standard) (call p (Configure standard) (idle bs)).0 (nothing (length bs)) in
-      subst (λ t. (fold (λ l (e : Entry). told (depths_of bs) e.asked e.answered l) m (trace p t cs)).columns.discarded ≡ []) (sym set_up)
-      (turns_discard (start bs ps) cs y l m (told_discards (depths_of bs) (Configure standard) (call p (Configure standard) (idle bs)).0 (nothing (length bs)) (λ n e. cc e)))
+  none_discarded ps cs y k =
+      let r : Result Answer Refusal = (call p (Configure standard) (idle bs)).0 in
+      let l : Ledger = told (depths_of bs) (Configure standard) r (nothing (length bs)) in
+      subst (λ t. (told_on l (trace p t cs)).columns.discarded ≡ []) (sym set_up)
+      (turns_discard (start bs ps) cs y k l (told_discards (depths_of bs) (Configure standard) r (nothing (length bs)) (λ n e. cc e)))
 
   module _ (bounded : Bounded p) (ps : List Captured) (r : Run p bs ps) where
-    -- the ledger of the whole trace has given as many numbers as the receiver
-    last_next : numbered_in r.stop.receiver ≡ (ledger bs (entries p bs r.calls)).next
-    last_next =
-        numbered_next (depths_of bs) r.stop.receiver (ledger bs (entries p bs r.calls))
-        (subst (λ t. TallyState (depths_of bs) t (ledger bs (entries p bs r.calls))) (entries_end ps r.calls r.stop r.leads)
-        (at_end p (Agreeing p bs) (keeps_agreeing p bs) (idle bs) (starts_agreeing p bs) (Configure standard ∷ r.calls)))
+    -- all calls, their trace and its ledger
+    abbrev calls : List Call
+    calls = Configure standard ∷ r.calls
 
-    rows_stand : (i : ℕ) (f : Fallen) → slice_get (outcomes p bs ps r) i ≡ Some f → Stands f.fate i (ledger bs (entries p bs r.calls))
+    abbrev es : List Entry
+    es = entries p bs r.calls
+
+    abbrev last : Ledger
+    last = ledger bs es
+
+    abbrev given : ℕ
+    given = numbered_in r.stop.receiver
+
+    -- the ledger has given as many numbers as the receiver
+    given_next : given ≡ last.next
+    given_next =
+        numbered_next (depths_of bs) r.stop.receiver last
+        (subst (λ t. TallyState (depths_of bs) t last) (entries_end ps r.calls r.stop r.leads)
+        (at_end p (Agreeing p bs) (keeps_agreeing p bs) (idle bs) (starts_agreeing p bs) calls))
+
+    rows_stand : (i : ℕ) (f : Fallen) → slice_get (outcomes p bs ps r) i ≡ Some f → Stands f.fate i last
     rows_stand i f h =
-        let es : List Entry = entries p bs r.calls in
-        let w = row_at (numbered_in r.stop.receiver) (closed r.stop) 0 (fates (length ps) es) i f h in
-        let n : ℕ = numbered_in r.stop.receiver in
+        let w = row_at given (closed r.stop) 0 (fates (length ps) es) i f h in
         let e : 0 + i ≡ i = omega arith in
-        let t : Decides w.noted i (ledger bs es).columns =
-        subst (λ o. DecidesAt o i (ledger bs es).columns) w.stands (decides p bounded bs (Configure standard ∷ r.calls) (length ps) i) in
-        subst (λ (g : Fallen). Stands g.fate i (ledger bs es)) (ap (λ m. in_the_end n (closed r.stop) m w.noted) (sym e) ∙ w.gives)
-        (noted_stands i n (closed r.stop) (ledger bs es) (one_place p bounded bs (Configure standard ∷ r.calls) es [] (sym (append-nil es)) i)
-        (none_discarded ps r.calls r.stop r.leads) last_next w.noted t)
+        let d : Decides w.noted i last.columns = subst (λ o. DecidesAt o i last.columns) w.stands (decides p bounded bs calls (length ps) i) in
+        let one = one_place p bounded bs calls es [] (sym (append-nil es)) i in
+        subst (λ (g : Fallen). Stands g.fate i last) (ap (λ m. in_the_end given (closed r.stop) m w.noted) (sym e) ∙ w.gives)
+        (noted_stands i given (closed r.stop) last one (none_discarded ps r.calls r.stop r.leads) given_next w.noted d)
 
     -- it takes an invariant that turns keep, with which arrivals are accepted
     module _ (I : Stage → Type 0) (starts : I (start bs ps)) (keeps : (x : Stage) → I x → (c : Call) → turn p x ≡ Some c → I (after p c x))
         (arrives : (x : Stage) → I x → (q : Captured) → turn p x ≡ Some (arrival q) → (a : Arrival) × ((call p (arrival q) x.receiver).0 ≡ Ok (Arrived a))) where
       pub by_ledger : RowsByLedger p bs ps r
       by_ledger = record {
-        one_each = length-all (numbered_in r.stop.receiver) (closed r.stop) 0 (fates (length ps) (entries p bs r.calls)) ∙ length-fates (length ps) (entries p bs r.calls);
+        one_each = length-all given (closed r.stop) 0 (fates (length ps) es) ∙ length-fates (length ps) es;
         numbered = in_order p ps I keeps arrives bs starts configured r.calls r.stop r.leads;
         stands = rows_stand;
       }
