@@ -1,6 +1,9 @@
+pub mod Answers
 pub mod ByLedger
 pub mod Fates
 pub mod Fit
+pub mod Refusals
 pub mod Runs
 pub mod Stages
+pub mod Tables
 pub mod Turns

@@ -1,7 +1,13 @@
 //! The replay of a capture: what became of each packet, and what each period offered the application.
 #![tactic(auto)]
 
+mod answers;
+mod entry;
 mod fates;
+mod refusals;
 mod stages;
 
+pub use answers::{FateCounts, Figures, Replayed, Tables};
+pub use entry::tables;
 pub use fates::{Fallen, Fate};
+pub use refusals::{Refusal, ReplayError};

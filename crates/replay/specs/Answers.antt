@@ -1,0 +1,81 @@
+-- What a replay answers, and what it leaves in the memory that is lent for its tables.
+use Rattle.std.specs.Prelude.{◌≡◌, ℕ, ◌+◌, cond, List, length, fold, Ok, Err, Result}
+use Rattle.capture.specs.declared.packets.Captured.{Captured}
+use Rattle.capture.specs.declared.refusals.ReadError.{ReadError}
+use Rattle.capture.specs.declared.refusals.ReadError.TheVariants as reading
+use Rattle.capture.specs.Meaning.{Meaning}
+use Rattle.machine.specs.Examples.{four, standard_board}
+use Rattle.table.specs.Memory.{fits}
+use Rattle.replay.specs.declared.answers.FateCounts.{FateCounts}
+use Rattle.replay.specs.declared.answers.Figures.{Figures}
+use Rattle.replay.specs.declared.answers.Replayed.{Replayed}
+use Rattle.replay.specs.declared.answers.Tables.{Tables}
+use Rattle.replay.specs.declared.fates.Fallen.{Fallen}
+use Rattle.replay.specs.declared.fates.Fate.{Fate}
+use Rattle.replay.specs.declared.fates.Fate.TheVariants.{Delivered, BearerFull, QueueFull, Waiting, Pending}
+use Rattle.replay.specs.declared.refusals.Refusal.{Refusal}
+use Rattle.replay.specs.declared.refusals.Refusal.TheVariants.{Unreadable, TooSmall}
+use Rattle.replay.specs.declared.refusals.ReplayError.{ReplayError}
+use Rattle.replay.specs.declared.refusals.ReplayError.TheVariants.{Memory, Refused}
+use Rattle.replay.specs.Runs.{Run, outcomes, periods}
+use Rattle.replay.specs.Stages.{closed}
+use Rattle.replay.specs.Tables.{packets_table, periods_table}
+
+-- how many packets there are of each fate
+abbrev pub one_more : Fate → FateCounts → FateCounts
+one_more Delivered n = record n { delivered = n.delivered + 1 }
+one_more BearerFull n = record n { bearer_full = n.bearer_full + 1 }
+one_more QueueFull n = record n { queue_full = n.queue_full + 1 }
+one_more Waiting n = record n { waiting = n.waiting + 1 }
+one_more Pending n = record n { pending = n.pending + 1 }
+
+abbrev pub counted : List Fallen → FateCounts
+counted fs = fold (λ n (f : Fallen). one_more f.fate n) (record { delivered = 0; bearer_full = 0; queue_full = 0; waiting = 0; pending = 0 }) fs
+
+-- the replay is made of the standard receiver
+abbrev pub StandardRun : List Captured → Type 0
+StandardRun = Run four standard_board
+
+module _ (ps : List Captured) (r : StandardRun ps) where
+  abbrev pub figures : Figures
+  figures =
+      record {
+        packets = length ps;
+        turns = length r.calls;
+        periods = closed r.stop;
+        fates = counted (outcomes four standard_board ps r);
+      }
+
+  -- the texts of its tables
+  abbrev pub packets_text : List ℕ
+  packets_text = packets_table ps (outcomes four standard_board ps r)
+
+  abbrev pub periods_text : List ℕ
+  periods_text = periods_table (periods four standard_board ps r)
+
+  -- what is answered where so much memory is lent: the packets' table is asked for first
+  abbrev pub answer : List ℕ → List ℕ → Result Replayed Refusal
+  answer packets periods =
+      cond (fits packets 0 packets_text)
+      (cond (fits periods 0 periods_text)
+      (Ok (record { figures = figures; packets_len = length packets_text; periods_len = length periods_text }))
+      (Err (TooSmall (length periods_text))))
+      (Err (TooSmall (length packets_text)))
+
+-- When an answer is what a capture's replay comes to. Want of memory says nothing of the capture.
+abbrev pub Refuses : Meaning → ReadError → Type 0
+Refuses m (reading.Refused f) = m ≡ Err f
+Refuses m reading.Memory = Unit {0}
+
+-- a reader's error, as a replay's
+abbrev pub passed_on : ReadError → ReplayError
+passed_on (reading.Refused f) = Refused (Unreadable f)
+passed_on reading.Memory = Memory
+
+pub record Tabled (m : Meaning) (t : Tables) : Type 0 where
+  pub captured : List Captured
+  pub means : m ≡ Ok captured
+  pub run : StandardRun captured
+  pub figures_are : t.figures ≡ figures captured run
+  pub packets : t.packets.items ≡ packets_text captured run
+  pub periods : t.periods.items ≡ periods_text captured run

@@ -1,0 +1,42 @@
+use std::alloc::Global;
+
+/// How many packets there are of each fate.
+#[derive(Clone, Copy, PartialEq, Eq, Debug)]
+pub struct FateCounts {
+    pub delivered: usize,
+    pub bearer_full: usize,
+    pub queue_full: usize,
+    pub waiting: usize,
+    pub pending: usize,
+}
+
+/// What a replay came to, in figures.
+#[derive(Clone, Copy, PartialEq, Eq, Debug)]
+pub struct Figures {
+    /// The packets of the capture.
+    pub packets: usize,
+    /// The turns made, the stop not counted.
+    pub turns: u64,
+    /// The periods closed.
+    pub periods: u32,
+    pub fates: FateCounts,
+}
+
+/// What a replay answers whose tables were written.
+#[derive(Clone, Copy, PartialEq, Eq, Debug)]
+pub struct Replayed {
+    pub figures: Figures,
+    /// How many bytes the packets table has.
+    pub packets_len: usize,
+    /// How many bytes the periods table has.
+    pub periods_len: usize,
+}
+
+/// The tables of a replay, and its figures.
+#[derive(Drop)]
+pub struct Tables {
+    pub figures: Figures,
+    /// In bytes, since `table` writes its rows in place.
+    pub packets: Vec<u8>,
+    pub periods: Vec<u8>,
+}
