@@ -26,7 +26,7 @@ pub data Applies (p : Batches) (x : Stage) : Option Call → Type 0 where
   works : {t : Task} → Past p x → x.task ≡ Some t → (t.to_go ≡ 0 → ⊥) → Applies p x (Some (Work (min t.to_go (span x))))
   fetches : Past p x → x.task ≡ None → any_left (core x.receiver).queue ≡ true → Applies p x (Some Fetch)
   over : Past p x → x.task ≡ None → any_left (core x.receiver).queue ≡ false → is_over x ≡ true → Applies p x None
-  waits : Past p x → x.task ≡ None → any_left (core x.receiver).queue ≡ false → is_over x ≡ false → Applies p x (Some (Work (span x)))
+  idles : Past p x → x.task ≡ None → any_left (core x.receiver).queue ≡ false → is_over x ≡ false → Applies p x (Some (Work (span x)))
 
 module _ (p : Batches) (x : Stage) where
   arrive_case : closed x < 1000 → (l : List Captured) → x.coming ≡ l → option_map_or (λ q. leb (moment x q) (now x)) (slice_get l 0) false ≡ true →
@@ -62,7 +62,7 @@ module _ (p : Batches) (x : Stage) where
       cond_both (is_some x.task) _ _ (Applies p x) (work_case k x.task refl)
       (λ n. let none = no_task x.task n in
       cond_both (any_left (core x.receiver).queue) _ _ (Applies p x) (fetches k none)
-      (λ q. cond_both (is_over x) _ _ (Applies p x) (over k none q) (waits k none q)))))))
+      (λ q. cond_both (is_over x) _ _ (Applies p x) (over k none q) (idles k none q)))))))
 
 -- how far work goes where no packet is due
 module _ (x : Stage) where

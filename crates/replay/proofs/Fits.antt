@@ -30,7 +30,7 @@ use Rattle.machine.proofs.Runs.{refused_same}
 use Rattle.machine.proofs.Unmoved.{Unmoved, gate_unmoved}
 use Rattle.replay.specs.Fit.{Readable, FitCore, Fit}
 use Rattle.replay.specs.Stages.{Task, Stage, first_stamp, start, core, closed, to_end, span, arrival, coming_after, task_after, turn, after}
-use Rattle.replay.proofs.Applies.{Applies, applies, arrives, finishes, steps, works, fetches, waits, ended, over, span_least, span_most}
+use Rattle.replay.proofs.Applies.{Applies, applies, arrives, finishes, steps, works, fetches, idles, ended, over, span_least, span_most}
 
 -- Of one call: how a move changes the figures that Fit speaks of.
 abbrev pub out_by : Call → Answer → List ℕ → List ℕ
@@ -227,8 +227,7 @@ module _ (p : Batches) {x : Core} {coming : List Captured} {first : ℕ} {task :
   first_readable : (q : Captured) (qs : List Captured) → coming ≡ q ∷ qs → AllByRecursion (Readable (length x.bearers) first) (q ∷ qs)
   first_readable q qs e = subst (AllByRecursion (Readable (length x.bearers) first)) e f.readable
 
-  arrive_fit : (q : Captured) (qs : List Captured) → coming ≡ q ∷ qs →
-      answer (arrival q) ≡ Ok (Arrived (given x q))
+  arrive_fit : (q : Captured) (qs : List Captured) → coming ≡ q ∷ qs → answer (arrival q) ≡ Ok (Arrived (given x q))
   arrive_fit q qs e =
       let r = (first_readable q qs e).0 in
       arrive_done p standard x q.bearer q.length 0 (omega (arith, f.few)) (omega (arith, f.closed)) r.bearer r.least r.most
@@ -257,8 +256,7 @@ module _ (p : Batches) {x : Core} {coming : List Captured} {first : ℕ} {task :
       FitCore p (core (call p c (running standard x)).1) qs first u
   stays bounded l c a e qs u o n r =
       let k = came p standard x c a e in
-      let kept : Kept p standard (core (call p c (running standard x)).1) =
-      subst (KeptState p) (runs p standard x c) (keeps p bounded c (running standard x) f.kept) in
+      let kept : Kept p standard _ = subst (KeptState p) (runs p standard x c) (keeps p bounded c (running standard x) f.kept) in
       record {
         kept = kept;
         elapsed = below_period p standard x _ f.elapsed (passes p standard x c) kept;
@@ -294,10 +292,10 @@ module _ (p : Batches) (x : Stage) (f : Fit p x) where
   held = core x.receiver
 
   -- what holds of the receiver as it is configured, holds of the stage's
-  there : (P : State → Type 0) → P (running standard held) → P x.receiver
+  pub there : (P : State → Type 0) → P (running standard held) → P x.receiver
   there P = subst P (sym f.0)
 
-  here : (P : State → Type 0) → P x.receiver → P (running standard held)
+  pub here : (P : State → Type 0) → P x.receiver → P (running standard held)
   here P = subst P f.0
 
   -- the receiver is left fit
@@ -376,7 +374,7 @@ module _ (p : Batches) (x : Stage) (f : Fit p x) where
         let a = fetch_fit p f.1 q.head q.rest n q.same in
         goes_same k.few Fetch (Fetched q.head) a (fetch_front p standard held (Fetched q.head) a) refl refl (rw (none_out p f.1 n))
     goes_on _ (over k n q o) = tt
-    goes_on _ (waits k n q o) = works_on k.few (span x) (span_least x k.due f.1.elapsed) (span_most x)
+    goes_on _ (idles k n q o) = works_on k.few (span x) (span_least x k.due f.1.elapsed) (span_most x)
 
 -- every turn's call is accepted, and leads to a fit stage
 pub turn_goes : (p : Batches) → Bounded p → (x : Stage) → Fit p x → (c : Call) → turn p x ≡ Some c → Goes p x c

@@ -1,5 +1,6 @@
 pub mod Applies
 pub mod Decided
+pub mod Falls
 pub mod Fits
 pub mod Gone
 pub mod Led

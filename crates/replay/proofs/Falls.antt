@@ -1,0 +1,175 @@
+-- A number that falls with each turn, so that a replay comes to a stop.
+use Rattle.std.proofs.Common.{◌≡◌, ℕ, ◌+◌, ◌-◌, ◌*◌, ◌<◌, ◌≤◌, min, Bool, true, false, cond, eqb, List, [], ◌∷◌, ◌++◌, length, drop, get_or, zero, suc, Some, None, Ok, Option, is_some, option_map, refl, sym, ap, ◌∙◌, subst, arith}
+use Rattle.std.specs.List.{AllByRecursion}
+use Rattle.std.proofs.lemmas.Bool.{cond_both, leb-true, eqb-false}
+use Rattle.std.proofs.lemmas.List.{length-append}
+use Rattle.board.specs.declared.packets.Packet.{Packet}
+use Rattle.board.specs.Bearers.{Bearer, bearer_of, any_waiting}
+use Rattle.board.specs.Costs.{class_costs, length_class, cost_of_length}
+use Rattle.capture.specs.declared.packets.Captured.{Captured}
+use Rattle.machine.specs.declared.answers.Answer.{Answer}
+use Rattle.machine.specs.declared.answers.Answer.TheVariants.{Stepped}
+use Rattle.machine.specs.declared.answers.Progress.TheVariants.{Empty, Rescheduled, Completed}
+use Rattle.machine.specs.declared.calls.Call.{Call}
+use Rattle.machine.specs.declared.calls.Call.TheVariants.{Step, Work, Fetch}
+use Rattle.machine.specs.declared.refusals.Refusal.{Refusal}
+use Rattle.machine.specs.Calls.{serve}
+use Rattle.machine.specs.Checks.{first_refusal}
+use Rattle.machine.specs.Examples.{standard}
+use Rattle.machine.specs.Laws.{Bounded}
+use Rattle.machine.specs.Machine.{unless, step_checks, step_by, call}
+use Rattle.machine.specs.Moves.{is_over, set_gate}
+use Rattle.machine.specs.State.{Clock, Grant, Core, running, Batches, waits}
+use Rattle.machine.proofs.Moved.{Move, signalled, begun, emptied, taken, rescheduled, completed, worked, fetched}
+use Rattle.machine.proofs.Periods.{settled}
+use Rattle.replay.specs.Fit.{Fit}
+use Rattle.replay.specs.Stages.{Task, Stage, start, core, now, span, handed, turn, after}
+use Rattle.replay.proofs.Applies.{Applies, applies, arrives, finishes, steps, works, fetches, idles, ended, over, span_least}
+use Rattle.replay.proofs.Fits.{came, here, there, Goes, turn_goes}
+
+-- a grant with packets left has two steps at least to go, and one with none left its close
+abbrev pub granted : Option Grant → ℕ
+granted None = 0
+granted (Some g) = cond (eqb g.left 0) 1 2
+
+-- Each cycle counts five up to the end of period 1,001; and beside them count the grant, a queued packet twice, the application's packet, and the packets still
+-- to arrive.
+abbrev pub fall : Stage → ℕ
+fall x =
+    5 * (64064000 - now x) + (granted (core x.receiver).grant + (2 * length (core x.receiver).queue + (cond (is_some x.task) 1 0 + length x.coming)))
+
+-- the part of it that a receiver holds, and the time on its clock
+abbrev load : Core → ℕ
+load x = granted x.grant + 2 * length x.queue
+
+abbrev time : Clock → ℕ
+time k = k.closed * standard.period + k.elapsed
+
+settled_time : (k : Clock) → time (settled standard k) ≡ time k
+settled_time k = cond_both (is_over standard k) _ _ (λ (l : Clock). time l ≡ time k) (λ h. omega (arith, leb-true standard.period k.elapsed h)) (λ _. refl)
+
+granted_most : (g : Option Grant) → granted g ≤ 2
+granted_most None = omega arith
+granted_most (Some g) = grind arith
+
+granted_some : (g : Option Grant) (h : Grant) → g ≡ Some h → 1 ≤ granted g
+granted_some g h e = rw e (grind arith)
+
+granted_left : (g : Option Grant) (h : Grant) → g ≡ Some h → (h.left ≡ 0 → ⊥) → granted g ≡ 2
+granted_left g h e n = rw e (grind arith)
+
+-- no packet is cheap
+at_least : (m n : ℕ) (ns : List ℕ) → m ≤ 1360 → AllByRecursion (λ k. m ≤ k) ns → m ≤ get_or ns n 1360
+at_least m n [] l a = l
+at_least m zero (k ∷ ns) l a = a.0
+at_least m (suc n) (k ∷ ns) l a = at_least m n ns l a.1
+
+length_dear : (n : ℕ) → 420 ≤ cost_of_length n
+length_dear n = at_least 420 (length_class n) class_costs (omega arith) (omega arith)
+
+queued_one : (room : Bool) (l : List Packet) (q : Packet) → length (cond room (l ++ q ∷ []) l) ≤ length l + 1
+queued_one true l q = omega (arith, length-append l (q ∷ []))
+queued_one false l q = omega arith
+
+-- what a call takes off at the least, where it is accepted
+abbrev falls_by : Call → ℕ
+falls_by Step = 1
+falls_by (Work c) = c
+falls_by Fetch = 2
+falls_by _ = 0
+
+-- a grant that closes does not answer that nothing was found, and an accepted call answers what it does
+closes_not : (b : Bool) (y z : Core) → (cond {A = Answer × Core} b (Stepped Rescheduled, y) (Stepped Completed, z)).0 ≡ Stepped Empty → ⊥
+closes_not true y z e = cc e
+closes_not false y z e = cc e
+
+done_by : (o : Option Refusal) (x : Core) (a b : Answer) (y : Core) → (unless o x (a, y)).0 ≡ Ok b → a ≡ b
+done_by None x a b y e = cc e
+done_by (Some r) x a b y e = cc e
+
+module _ (p : Batches) (x : Core) where
+  abbrev Lighter : Call → Core → Type 0
+  Lighter c y = load y + (falls_by c + 5 * time x.clock) ≤ load x + 5 * time y.clock
+
+  move_lighter : (c : Call) (a : Answer) (y : Core) → Move standard p x c a y → ((g : Grant) → c ≡ Step → a ≡ Stepped Empty → x.grant ≡ Some g → g.left ≡ 0 → ⊥) → Lighter c y
+  move_lighter _ _ _ (signalled l r e) n = omega (arith, settled_time (record x.clock { elapsed = x.clock.elapsed + 60; used = x.clock.used + 60 }))
+  move_lighter _ _ _ (begun {b = b} e i u h) n =
+      omega (arith, ap granted e, granted_most, settled_time (record x.clock { elapsed = x.clock.elapsed + 80; used = x.clock.used + 80 }))
+  move_lighter _ _ _ (emptied {g = g} e w) n = omega (arith, granted_left x.grant g e (n g refl refl e))
+  move_lighter _ _ _ (taken {g = g} {q = q} {m = m} {room = room} e w some less r) n =
+      let cost : ℕ = (bearer_of x.bearers g.bearer).cost + cost_of_length q.length in
+      omega (
+        arith,
+        granted_left x.grant g e some,
+        granted_most (Some (record g { left = m })),
+        queued_one room x.queue q,
+        length_dear q.length,
+        settled_time (record x.clock { elapsed = x.clock.elapsed + cost; used = x.clock.used + cost }),
+      )
+  move_lighter _ _ _ (rescheduled {g = g} e) n = omega (arith, granted_some x.grant g e)
+  move_lighter _ _ _ (completed {g = g} e w r) n = omega (arith, granted_some x.grant g e)
+  move_lighter _ _ _ (worked {c = c} h) n = omega (arith, settled_time (record x.clock { elapsed = x.clock.elapsed + c; offered = x.clock.offered + c }))
+  move_lighter _ _ _ (fetched e) n = omega (arith, ap length e)
+  move_lighter _ _ _ _ n = omega arith
+
+  -- a step that found nothing had packets left to its grant
+  serve_left : (g : Grant) → (serve standard g x).0 ≡ Stepped Empty → g.left ≡ 0 → ⊥
+  unfolding serve
+  serve_left g = cond_both (eqb g.left 0) _ _ (λ (d : Answer × Core). d.0 ≡ Stepped Empty → g.left ≡ 0 → ⊥)
+      (λ _ e. absurd (closes_not (any_waiting (waits x.bearers g.bearer)) _ _ e)) (λ n _. eqb-false g.left 0 n)
+
+  empty_left : (g : Grant) → (call p Step (running standard x)).0 ≡ Ok (Stepped Empty) → x.grant ≡ Some g → g.left ≡ 0 → ⊥
+  unfolding call
+  empty_left g e h = serve_left g (done_by (first_refusal (step_checks standard x (Some g))) x _ (Stepped Empty) _ (subst Steps h e))
+    where
+      Steps : Option Grant → Type 0
+      Steps o = (unless (first_refusal (step_checks standard x o)) x ((step_by standard p o x).0, set_gate standard x (step_by standard p o x).1)).0 ≡ Ok (Stepped Empty)
+
+  call_lighter : (c : Call) (a : Answer) → (call p c (running standard x)).0 ≡ Ok a → Lighter c (core (call p c (running standard x)).1)
+  call_lighter c a e =
+      let k = came p standard x c a e in
+      omega (arith, move_lighter c a k.left k.move (λ g s f h. empty_left g (sym (ap (λ d. (call p d (running standard x)).0) s) ∙ (e ∙ ap Ok f)) h), ap granted k.gate.grant, ap length k.gate.queue, ap time k.gate.clock)
+
+-- what counts beside the receiver
+abbrev has_task : Option Task → ℕ
+has_task task = cond (is_some task) 1 0
+
+abbrev rest : Option Task → List Captured → ℕ
+rest task coming = has_task task + length coming
+
+one_task : (task : Option Task) → has_task task ≤ 1
+one_task None = omega arith
+one_task (Some t) = omega arith
+
+same_task : (c : ℕ) (task : Option Task) → has_task (option_map (λ (u : Task). record u { to_go = u.to_go - c }) task) ≡ has_task task
+same_task c None = refl
+same_task c (Some t) = refl
+
+module _ (p : Batches) (bounded : Bounded p) (x : Stage) (f : Fit p x) where
+  abbrev FallsOn : Option Call → Type 0
+  FallsOn None = Unit {0}
+  FallsOn (Some c) = fall (after p c x) < fall x
+
+  falls_if : (c : Call) → Goes p x c → rest (after p c x).task (after p c x).coming < rest x.task x.coming + falls_by c → fall (after p c x) < fall x
+  falls_if c g l =
+      let h : Lighter p (core x.receiver) c (core (call p c x.receiver).1) =
+      there p x f (λ t. Lighter p (core x.receiver) c (core (call p c t).1))
+      (call_lighter p (core x.receiver) c g.answer (here p x f (λ t. (call p c t).0 ≡ Ok g.answer) g.answered)) in
+      omega (arith, h, l, f.1.closed, f.1.elapsed, g.fit.1.closed, g.fit.1.elapsed)
+
+  falls_on : (o : Option Call) → ((c : Call) → o ≡ Some c → Goes p x c) → Applies p x o → FallsOn o
+  falls_on _ g (ended l) = tt
+  falls_on _ g (arrives {q = q} {qs = qs} l e m) = falls_if _ (g _ refl) (omega (arith, ap length e, ap (λ (k : List Captured). length (drop 1 k)) e))
+  falls_on _ g (finishes {t = t} l d e z) = falls_if _ (g _ refl) (omega (arith, ap has_task e))
+  falls_on _ g (steps l d h o) = falls_if _ (g _ refl) (omega arith)
+  falls_on _ g (works {t = t} k e z) = falls_if _ (g _ refl) (omega (arith, z, span_least x k.due f.1.elapsed, same_task (min t.to_go (span x)) x.task))
+  falls_on _ g (fetches k n h) = falls_if _ (g _ refl) (omega (arith, ap has_task n, one_task (handed (call p Fetch x.receiver).0)))
+  falls_on _ g (over k n q o) = tt
+  falls_on _ g (idles k n q o) = falls_if _ (g _ refl) (omega (arith, span_least x k.due f.1.elapsed, same_task (span x) x.task))
+
+pub falls : (p : Batches) → Bounded p → (x : Stage) → Fit p x → (c : Call) → turn p x ≡ Some c → fall (after p c x) < fall x
+falls p bounded x f c e = subst (FallsOn p bounded x f) e (falls_on p bounded x f (turn p x) (turn_goes p bounded x f) (applies p x))
+
+-- at the start
+pub start_falls : (bs : List Bearer) (ps : List Captured) → length ps ≤ 1024 → fall (start bs ps) ≤ 320321024
+start_falls bs ps l = omega (arith, l)
