@@ -25,7 +25,7 @@ use Rattle.machine.proofs.Periods.{settled}
 use Rattle.replay.specs.Fit.{Fit}
 use Rattle.replay.specs.Stages.{Task, Stage, start, core, now, span, handed, turn, after}
 use Rattle.replay.proofs.Applies.{Applies, applies, arrives, finishes, steps, works, fetches, idles, ended, over, span_least}
-use Rattle.replay.proofs.Fits.{came, here, there, Goes, turn_goes}
+use Rattle.replay.proofs.Fits.{left_by, came, here, there, Goes, turn_goes}
 
 -- a grant with packets left has two steps at least to go, and one with none left its close
 abbrev pub granted : Option Grant → ℕ
@@ -91,7 +91,8 @@ module _ (p : Batches) (x : Core) where
   abbrev Lighter : Call → Core → Type 0
   Lighter c y = load y + (falls_by c + 5 * time x.clock) ≤ load x + 5 * time y.clock
 
-  move_lighter : (c : Call) (a : Answer) (y : Core) → Move standard p x c a y → ((g : Grant) → c ≡ Step → a ≡ Stepped Empty → x.grant ≡ Some g → g.left ≡ 0 → ⊥) → Lighter c y
+  move_lighter : (c : Call) (a : Answer) (y : Core) → Move standard p x c a y →
+      ((g : Grant) → c ≡ Step → a ≡ Stepped Empty → x.grant ≡ Some g → g.left ≡ 0 → ⊥) → Lighter c y
   move_lighter _ _ _ (signalled l r e) n = omega (arith, settled_time (record x.clock { elapsed = x.clock.elapsed + 60; used = x.clock.used + 60 }))
   move_lighter _ _ _ (begun {b = b} e i u h) n =
       omega (arith, ap granted e, granted_most, settled_time (record x.clock { elapsed = x.clock.elapsed + 80; used = x.clock.used + 80 }))
@@ -120,15 +121,19 @@ module _ (p : Batches) (x : Core) where
 
   empty_left : (g : Grant) → (call p Step (running standard x)).0 ≡ Ok (Stepped Empty) → x.grant ≡ Some g → g.left ≡ 0 → ⊥
   unfolding call
-  empty_left g e h = serve_left g (done_by (first_refusal (step_checks standard x (Some g))) x _ (Stepped Empty) _ (subst Steps h e))
+  empty_left g e h = serve_left g (done_by (first_refusal (step_checks standard x (Some g))) x _ (Stepped Empty) _ (subst Empties h e))
     where
-      Steps : Option Grant → Type 0
-      Steps o = (unless (first_refusal (step_checks standard x o)) x ((step_by standard p o x).0, set_gate standard x (step_by standard p o x).1)).0 ≡ Ok (Stepped Empty)
+      Empties : Option Grant → Type 0
+      Empties o =
+          let d = step_by standard p o x in (unless (first_refusal (step_checks standard x o)) x (d.0, set_gate standard x d.1)).0 ≡ Ok (Stepped Empty)
 
-  call_lighter : (c : Call) (a : Answer) → (call p c (running standard x)).0 ≡ Ok a → Lighter c (core (call p c (running standard x)).1)
+  call_lighter : (c : Call) (a : Answer) → (call p c (running standard x)).0 ≡ Ok a → Lighter c (left_by p standard x c)
   call_lighter c a e =
       let k = came p standard x c a e in
-      omega (arith, move_lighter c a k.left k.move (λ g s f h. empty_left g (sym (ap (λ d. (call p d (running standard x)).0) s) ∙ (e ∙ ap Ok f)) h), ap granted k.gate.grant, ap length k.gate.queue, ap time k.gate.clock)
+      omega (arith, move_lighter c a k.left k.move found, ap granted k.gate.grant, ap length k.gate.queue, ap time k.gate.clock)
+    where
+      found : (g : Grant) → c ≡ Step → a ≡ Stepped Empty → x.grant ≡ Some g → g.left ≡ 0 → ⊥
+      found g s f h = empty_left g (sym (ap (λ d. (call p d (running standard x)).0) s) ∙ (e ∙ ap Ok f)) h
 
 -- what counts beside the receiver
 abbrev has_task : Option Task → ℕ
@@ -152,9 +157,8 @@ module _ (p : Batches) (bounded : Bounded p) (x : Stage) (f : Fit p x) where
 
   falls_if : (c : Call) → Goes p x c → rest (after p c x).task (after p c x).coming < rest x.task x.coming + falls_by c → fall (after p c x) < fall x
   falls_if c g l =
-      let h : Lighter p (core x.receiver) c (core (call p c x.receiver).1) =
-      there p x f (λ t. Lighter p (core x.receiver) c (core (call p c t).1))
-      (call_lighter p (core x.receiver) c g.answer (here p x f (λ t. (call p c t).0 ≡ Ok g.answer) g.answered)) in
+      let a = here p x f (λ t. (call p c t).0 ≡ Ok g.answer) g.answered in
+      let h = there p x f (λ t. Lighter p (core x.receiver) c (core (call p c t).1)) (call_lighter p (core x.receiver) c g.answer a) in
       omega (arith, h, l, f.1.closed, f.1.elapsed, g.fit.1.closed, g.fit.1.elapsed)
 
   falls_on : (o : Option Call) → ((c : Call) → o ≡ Some c → Goes p x c) → Applies p x o → FallsOn o

@@ -72,7 +72,8 @@ module _ (s : RawSettings) (p : Batches) (x : Core) where
   move_bearers _ _ _ (signalled {b = b} l r e) = length-set x.bearers b _
   move_bearers _ _ _ (emptied {g = g} e w) = length-set x.bearers g.bearer _
   move_bearers _ _ _ (taken {g = g} e w n less r) = length-set x.bearers g.bearer _
-  move_bearers _ _ _ (completed {g = g} {o = o} e w r) = cond_both o _ _ (λ (bs : List Bearer). length bs ≡ length x.bearers) (λ _. length-set x.bearers g.bearer _) (λ _. refl)
+  move_bearers _ _ _ (completed {g = g} {o = o} e w r) =
+      cond_both o _ _ (λ (bs : List Bearer). length bs ≡ length x.bearers) (λ _. length-set x.bearers g.bearer _) (λ _. refl)
   move_bearers _ _ _ _ = refl
 
   pub move_passes : (c : Call) (a : Answer) (y : Core) → Move s p x c a y → Passes s x.clock y.clock
@@ -83,6 +84,10 @@ module _ (s : RawSettings) (p : Batches) (x : Core) where
   move_passes _ _ _ _ = same_passes s x.clock
 
 module _ (p : Batches) where
+  -- what a configured receiver holds after a call
+  abbrev pub left_by : RawSettings → Core → Call → Core
+  left_by s x c = core (call p c (running s x)).1
+
   -- an accepted call of a configured receiver is a move, and then the gate is set
   pub record Came (s : RawSettings) (x : Core) (c : Call) (a : Answer) (z : Core) : Type 0 where
     pub left : Core
@@ -97,32 +102,33 @@ module _ (p : Batches) where
   happens_came _ _ _ _ a (moved {s = s} {x = x} {y = y} {c = c} {a = b} m l) e =
       record { left = y; move = subst (λ (d : Answer). Move s p x c d y) (cc e) m; gate = gate_unmoved s x y }
 
-  pub came : (s : RawSettings) (x : Core) (c : Call) (a : Answer) → (call p c (running s x)).0 ≡ Ok a → Came s x c a (core (call p c (running s x)).1)
+  pub came : (s : RawSettings) (x : Core) (c : Call) (a : Answer) → (call p c (running s x)).0 ≡ Ok a → Came s x c a (left_by s x c)
   came s x c a e = happens_came (running s x) (call p c (running s x)).1 c (call p c (running s x)).0 a (happens p c (running s x)) e
 
   -- a configured receiver stays configured
-  pub runs : (s : RawSettings) (x : Core) (c : Call) → (call p c (running s x)).1 ≡ running s (core (call p c (running s x)).1)
+  pub runs : (s : RawSettings) (x : Core) (c : Call) → (call p c (running s x)).1 ≡ running s (left_by s x c)
   unfolding call
   runs s x c = refl
 
   -- what is not answered by Ok is refused, and changes nothing
   answered : (s : RawSettings) (x : Core) (c : Call) (P : Core → Type 0) → P x →
-      ((a : Answer) → (call p c (running s x)).0 ≡ Ok a → P (core (call p c (running s x)).1)) → P (core (call p c (running s x)).1)
+      ((a : Answer) → (call p c (running s x)).0 ≡ Ok a → P (left_by s x c)) → P (left_by s x c)
   answered s x c P same done = by (call p c (running s x)).0 refl
     where
-      by : (r : Result Answer Refusal) → (call p c (running s x)).0 ≡ r → P (core (call p c (running s x)).1)
+      by : (r : Result Answer Refusal) → (call p c (running s x)).0 ≡ r → P (left_by s x c)
       by (Ok a) e = done a e
       by (Err q) e =
-          subst (λ (u : State). P (core u)) (sym (refused_same p (running s x) (call p c (running s x)).1 c (call p c (running s x)).0 q (happens p c (running s x)) e)) same
+          let h = refused_same p (running s x) (call p c (running s x)).1 c (call p c (running s x)).0 q (happens p c (running s x)) e in
+          subst (λ (u : State). P (core u)) (sym h) same
 
-  -- at most one period closes in a call, and no other call than an arrival is given a number
-  pub passes : (s : RawSettings) (x : Core) (c : Call) → Passes s x.clock (core (call p c (running s x)).1).clock
+  -- at most one period closes in a call, and as many bearers are there
+  pub passes : (s : RawSettings) (x : Core) (c : Call) → Passes s x.clock (left_by s x c).clock
   passes s x c = answered s x c (λ z. Passes s x.clock z.clock) (same_passes s x.clock)
       (λ a e. let k = came s x c a e in subst (λ (l : Clock). Passes s x.clock l) (sym k.gate.clock) (move_passes s p x c a k.left k.move))
 
-  pub same_bearers : (s : RawSettings) (x : Core) (c : Call) → length (core (call p c (running s x)).1).bearers ≡ length x.bearers
+  pub same_bearers : (s : RawSettings) (x : Core) (c : Call) → length (left_by s x c).bearers ≡ length x.bearers
   same_bearers s x c = answered s x c (λ z. length z.bearers ≡ length x.bearers) refl
-      (λ a e. let k = came s x c a e in as_many k.left (core (call p c (running s x)).1) k.gate ∙ move_bearers s p x c a k.left k.move)
+      (λ a e. let k = came s x c a e in as_many k.left (left_by s x c) k.gate ∙ move_bearers s p x c a k.left k.move)
     where
       as_many : (y z : Core) → Unmoved y z → length z.bearers ≡ length y.bearers
       as_many y z u = sym (length-map z.bearers after_disarm) ∙ (ap length u.bearers ∙ length-map y.bearers after_disarm)
@@ -135,7 +141,7 @@ module _ (p : Batches) where
 
   -- an arrival is numbered, and no other call is
   pub numbers : (s : RawSettings) (x : Core) (c : Call) (a : Answer) → (call p c (running s x)).0 ≡ Ok a →
-      (core (call p c (running s x)).1).counts.numbered ≡ numbered_by c x.counts.numbered
+      (left_by s x c).counts.numbered ≡ numbered_by c x.counts.numbered
   numbers s x c a e =
       let k = came s x c a e in ap (λ (m : Counts). m.numbered) k.gate.counts ∙ move_numbered s p x c a k.left k.move
 
@@ -168,12 +174,12 @@ module _ (p : Batches) where
       1 ≤ n → n ≤ 384 →
       (call p (Arrive b n t) (running s x)).0 ≡ Ok (Arrived (record { number = x.counts.numbered; accepted = has_room (bearer_of x.bearers b) }))
   unfolding call arrive
-  arrive_done s x b n t i j k l m = grind (arith)
+  arrive_done s x b n t i j k l m = grind arith
 
-  pub work_done : (s : RawSettings) (x : Core) (c : ℕ) → x.counts.numbered < 1000000000 → x.clock.closed < 1000000000 → 1 ≤ c → x.clock.elapsed + c ≤ s.period →
-      (call p (Work c) (running s x)).0 ≡ Ok Worked
+  pub work_done : (s : RawSettings) (x : Core) (c : ℕ) → x.counts.numbered < 1000000000 → x.clock.closed < 1000000000 →
+      1 ≤ c → x.clock.elapsed + c ≤ s.period → (call p (Work c) (running s x)).0 ≡ Ok Worked
   unfolding call
-  work_done s x c i j k l = grind (arith)
+  work_done s x c i j k l = grind arith
 
   pub fetch_done : (s : RawSettings) (x : Core) (q : Packet) (rest : List Packet) → x.queue ≡ q ∷ rest → length x.out < 16 →
       (call p Fetch (running s x)).0 ≡ Ok (Fetched q)
@@ -253,7 +259,7 @@ module _ (p : Batches) {x : Core} {coming : List Captured} {first : ℕ} {task :
   -- an accepted call leaves all fit, where it leaves these packets to arrive and the application this packet
   stays : Bounded p → x.clock.closed < 1000 → (c : Call) (a : Answer) → answer c ≡ Ok a → (qs : List Captured) (u : Option Task) →
       out_by c a x.out ≡ numbers_of u → numbered_by c x.counts.numbered + length qs ≤ 1024 → AllByRecursion (Readable (length x.bearers) first) qs →
-      FitCore p (core (call p c (running standard x)).1) qs first u
+      FitCore p (left_by p standard x c) qs first u
   stays bounded l c a e qs u o n r =
       let k = came p standard x c a e in
       let kept : Kept p standard _ = subst (KeptState p) (runs p standard x c) (keeps p bounded c (running standard x) f.kept) in
@@ -306,19 +312,29 @@ module _ (p : Batches) (x : Stage) (f : Fit p x) where
 
   -- a call with this answer
   goes : (c : Call) (a : Answer) → (call p c (running standard held)).0 ≡ Ok a → Tells held c a →
-      FitCore p (core (call p c (running standard held)).1) (coming_after c x.coming) x.first (task_after c (Ok a) x.task) → Goes p x c
+      FitCore p (left_by p standard held c) (coming_after c x.coming) x.first (task_after c (Ok a) x.task) → Goes p x c
   goes c a e says k = record {
     answer = a;
     answered = there (λ t. (call p c t).0 ≡ Ok a) e;
     tells = says;
     numbered = there (λ t. (core (call p c t).1).counts.numbered ≡ numbered_by c held.counts.numbered) (numbers p standard held c a e);
-    fit = there (Stays c) (runs p standard held c, subst (λ r. FitCore p (core (call p c (running standard held)).1) (coming_after c x.coming) x.first (task_after c r x.task)) (sym e) k);
+    fit = there (Stays c)
+        (runs p standard held c, subst (λ r. FitCore p (left_by p standard held c) (coming_after c x.coming) x.first (task_after c r x.task)) (sym e) k);
   }
 
   -- what calls answer, whatever the turn is
   pub arrival_numbered : (q : Captured) (qs : List Captured) → x.coming ≡ q ∷ qs →
-      (r : Arrival) × ((call p (arrival q) x.receiver).0 ≡ Ok (Arrived r)) × (r.number ≡ held.counts.numbered)
-  arrival_numbered q qs e = (given held q, there (λ t. (call p (arrival q) t).0 ≡ Ok (Arrived (given held q))) (arrive_fit p f.1 q qs e), refl)
+      (r : Arrival)
+      × ((call p (arrival q) x.receiver).0 ≡ Ok (Arrived r))
+      × (r.number ≡ held.counts.numbered)
+      × ((core (call p (arrival q) x.receiver).1).counts.numbered ≡ held.counts.numbered + 1)
+  arrival_numbered q qs e =
+      let a = arrive_fit p f.1 q qs e in (
+        given held q,
+        there (λ t. (call p (arrival q) t).0 ≡ Ok (Arrived (given held q))) a,
+        refl,
+        there (λ t. (core (call p (arrival q) t).1).counts.numbered ≡ held.counts.numbered + 1) (numbers p standard held (arrival q) _ a),
+      )
 
   pub task_finished : (t : Task) → x.task ≡ Some t → (call p (Finish t.number) x.receiver).0 ≡ Ok Finished
   task_finished t e = there (λ u. (call p (Finish t.number) u).0 ≡ Ok Finished) (finish_fit p f.1 t e)
@@ -337,18 +353,23 @@ module _ (p : Batches) (x : Stage) (f : Fit p x) where
   fetched_front a e = fetch_front p standard held a (here (λ t. (call p Fetch t).0 ≡ Ok a) e)
 
   -- no other call than an arrival is numbered
-  pub same_numbered : (c : Call) → numbered_by c held.counts.numbered ≡ held.counts.numbered → (core (call p c x.receiver).1).counts.numbered ≡ held.counts.numbered
+  pub same_numbered : (c : Call) → numbered_by c held.counts.numbered ≡ held.counts.numbered →
+      (core (call p c x.receiver).1).counts.numbered ≡ held.counts.numbered
   same_numbered c n = there (λ t. (core (call p c t).1).counts.numbered ≡ held.counts.numbered)
       (answered p standard held c (λ z. z.counts.numbered ≡ held.counts.numbered) refl (λ a e. numbers p standard held c a e ∙ n))
 
   -- at most one period closes in a call
   pub closes_one : (c : Call) → (closed (after p c x) ≡ closed x) ⊎ (closed (after p c x) ≡ closed x + 1)
-  closes_one c = there (λ t. ((core (call p c t).1).clock.closed ≡ closed x) ⊎ ((core (call p c t).1).clock.closed ≡ closed x + 1)) (passes p standard held c).closed
+  closes_one c = there One (passes p standard held c).closed
+    where
+      One : State → Type 0
+      One t = ((core (call p c t).1).clock.closed ≡ closed x) ⊎ ((core (call p c t).1).clock.closed ≡ closed x + 1)
 
   module _ (bounded : Bounded p) where
     -- one that leaves the packets still to arrive as they are, and is given no number
-    goes_same : closed x < 1000 → (c : Call) (a : Answer) → (call p c (running standard held)).0 ≡ Ok a → Tells held c a → coming_after c x.coming ≡ x.coming →
-        numbered_by c held.counts.numbered ≡ held.counts.numbered → out_by c a held.out ≡ numbers_of (task_after c (Ok a) x.task) → Goes p x c
+    goes_same : closed x < 1000 → (c : Call) (a : Answer) → (call p c (running standard held)).0 ≡ Ok a → Tells held c a →
+        coming_after c x.coming ≡ x.coming → numbered_by c held.counts.numbered ≡ held.counts.numbered →
+        out_by c a held.out ≡ numbers_of (task_after c (Ok a) x.task) → Goes p x c
     goes_same l c a e says same n o =
         goes c a e says (stays p f.1 bounded l c a e _ _ o (omega (arith, n, ap length same, f.1.few)) (rw same f.1.readable))
 
@@ -393,6 +414,7 @@ start_fits p bs ps k l r = (
     closed = omega arith;
     out = refl;
     few = omega (arith, l);
-    readable = subst (λ n. AllByRecursion (Readable n (first_stamp ps)) ps) (sym (length-map bs (λ (v : Bearer). after_arm false (after_disarm v)))) r;
+    readable =
+        subst (λ n. AllByRecursion (Readable n (first_stamp ps)) ps) (sym (length-map bs (λ (v : Bearer). after_arm false (after_disarm v)))) r;
   },
 )
