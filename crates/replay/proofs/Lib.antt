@@ -5,6 +5,7 @@ pub mod Fits
 pub mod Gone
 pub mod Led
 pub mod Numbered
+pub mod Recorded
 pub mod Refused
 pub mod Rows
 pub mod Ruled
