@@ -5,6 +5,7 @@ pub mod Fits
 pub mod Gone
 pub mod Led
 pub mod Numbered
+pub mod Readings
 pub mod Recorded
 pub mod Refused
 pub mod Rows
