@@ -1,11 +1,10 @@
 -- Whether packets are on their way is seen from the counts: as many are gone as were numbered.
-use Rattle.std.proofs.Common.{◌≡◌, ℕ, ◌+◌, Bool, true, false, not, ◌&&◌, eqb, ltb, List, [], ◌∷◌, length, refl, sym, ap, ◌∙◌, arith}
+use Rattle.std.proofs.Common.{◌≡◌, ℕ, ◌+◌, not, ◌&&◌, eqb, ltb, List, [], ◌∷◌, length, refl, sym, ap, ◌∙◌, arith}
 use Rattle.std.specs.List.{list_any, sum_by}
 use Rattle.std.proofs.lemmas.Bool.Decides.{eqb_tells, leb_tells}
 use Rattle.std.proofs.lemmas.Grind.{common_steps}
 use Rattle.std.proofs.lemmas.List.Sums.{sum_by-cons}
 use Rattle.board.specs.Bearers.{Bearer, any_waiting}
-use Rattle.machine.specs.declared.answers.Counts.{Counts}
 use Rattle.machine.specs.Laws.{accounted}
 use Rattle.machine.specs.Machine.{any_left}
 use Rattle.machine.specs.State.{Core}

@@ -1,5 +1,6 @@
--- A refused call leaves the receiver as it was.
-use Rattle.std.proofs.Common.{◌≡◌, Err, Result}
+-- Calls that are refused, and calls that are not.
+use Rattle.std.proofs.Common.{◌≡◌, true, false, Ok, Err, Result, IsOk, OnOk, OnErr, ap, is_ok, refl}
+use Rattle.std.specs.Result.{result_map_both}
 use Rattle.machine.specs.declared.calls.Call.{Call}
 use Rattle.machine.specs.declared.refusals.Refusal.{Refusal}
 use Rattle.machine.specs.Machine.{call}
@@ -7,5 +8,25 @@ use Rattle.machine.specs.State.{State, Batches}
 use Rattle.machine.proofs.Moved.{happens}
 use Rattle.machine.proofs.Runs.{refused_same}
 
+-- a refused call leaves the receiver as it was
 pub stays : (p : Batches) (c : Call) (t : State) (r : Refusal) → (call p c t).0 ≡ Err r → (call p c t).1 ≡ t
 stays p c t r h = refused_same p t (call p c t).1 c (call p c t).0 r (happens p c t) h
+
+-- what answers as an accepted call was not refused
+pub passes : {R E S F : Type 0} (f : R → S) (g : E → F) (r : Result R E) (y : S) → result_map_both f g r ≡ Ok y → IsOk r
+passes f g (Ok a) y h = refl
+passes f g (Err e) y h = cc
+
+-- and what answers as a call, is accepted where the call is
+pub as_answered : {R E S F : Type 0} (f : R → S) (g : E → F) (r : Result R E) (a : Result S F) → result_map_both f g r ≡ a → is_ok r ≡ is_ok a
+as_answered f g (Ok x) a h = ap is_ok h
+as_answered f g (Err e) a h = ap is_ok h
+
+-- what is said of a result that is accepted, or refused
+pub if_ok : {R E : Type 0} {P : Type 0} (r : Result R E) → is_ok r ≡ true → OnOk r P → P
+if_ok (Ok a) e p = p
+if_ok (Err e) h p = cc
+
+pub if_err : {R E : Type 0} {P : Type 0} (r : Result R E) → is_ok r ≡ false → OnErr r P → P
+if_err (Ok a) e p = cc
+if_err (Err e) h p = p

@@ -1,11 +1,9 @@
 -- What the receiver of a replay tells.
-use Rattle.std.proofs.Common.{◌≡◌, Ok, Result, sym, ap, ◌∙◌, refl, arith}
-use Rattle.machine.specs.declared.answers.Answer.{Answer}
+use Rattle.std.proofs.Common.{◌≡◌, Ok, ap, ◌∙◌, refl}
 use Rattle.machine.specs.declared.answers.Answer.TheVariants.{Told}
 use Rattle.machine.specs.declared.answers.Report.{Report}
 use Rattle.machine.specs.declared.calls.Call.TheVariants.{Tell}
 use Rattle.machine.specs.declared.calls.RawSettings.{RawSettings}
-use Rattle.machine.specs.declared.refusals.Refusal.{Refusal}
 use Rattle.machine.specs.Machine.{call}
 use Rattle.machine.specs.State.{Core, State, running, Batches}
 use Rattle.replay.specs.Turns.{report}

@@ -1,17 +1,14 @@
 -- Which rule a turn goes by, and what it then comes to.
-use Rattle.std.proofs.Common.{◌≡◌, ℕ, ◌<◌, ◌≤◌, Bool, true, false, cond, leb, List, [], ◌∷◌, Some, None, Ok, Err, Option, Result, refl, sym, ap, ◌∙◌, subst, is_ok, is_some, min, IfSome, arith}
+use Rattle.std.proofs.Common.{◌≡◌, ◌<◌, ◌≤◌, true, false, leb, Some, None, Option, refl, ap, ◌∙◌, is_ok, is_some, min, IfSome}
 use Rattle.std.proofs.lemmas.Bool.{le-leb, lt-leb}
 use Rattle.std.specs.Option.{option_map}
 use Rattle.capture.specs.declared.packets.Captured.{Captured}
-use Rattle.machine.specs.declared.answers.Answer.{Answer}
-use Rattle.machine.specs.declared.calls.Call.{Call}
 use Rattle.machine.specs.declared.calls.Call.TheVariants.{Step, Work, Fetch, Finish}
-use Rattle.machine.specs.declared.refusals.Refusal.{Refusal}
 use Rattle.machine.specs.Machine.{any_left, call}
 use Rattle.machine.specs.State.{Batches}
 use Rattle.replay.specs.declared.fates.Decision.{Decision}
 use Rattle.replay.specs.declared.stages.Turn.TheVariants.{Made, Stop}
-use Rattle.replay.specs.Stages.{Task, Stage, Rule, arrival, closed, core, first_of, is_due, is_over, is_through, next, rules, span, turn}
+use Rattle.replay.specs.Stages.{Task, Stage, arrival, closed, core, is_due, is_over, is_through, next, span, turn}
 use Rattle.replay.specs.Turns.{Makes, Playing, Turned}
 
 -- the first rule that applies
@@ -88,17 +85,22 @@ module _ {P : Type 0} (p : Batches) (x : Playing P) where
               by None f m = cc (e, f)
 
           module _ (none : x.stage.task ≡ None) where
-            no_task : is_some x.stage.task ≡ false
-            no_task = ap is_some none
+            idle : is_some x.stage.task ≡ false
+            idle = ap is_some none
 
             pub fetched : (y : Playing P) → any_left (core x.stage.receiver).queue ≡ true → Makes p Fetch x None y → Turned p x (Made None) y
-            fetched y e m = (Fetch, fetches p x.stage going early none_through refused no_task e, m)
+            fetched y e m = (Fetch, fetches p x.stage going early none_through refused idle e, m)
 
             module _ (empty : any_left (core x.stage.receiver).queue ≡ false) where
               pub stops_over : is_over x.stage ≡ true → Turned p x Stop x
-              stops_over e = (over p x.stage going early none_through refused no_task empty e, refl)
+              stops_over e = (over p x.stage going early none_through refused idle empty e, refl)
 
               pub waited : (y : Playing P) → is_over x.stage ≡ false → Makes p (Work (span x.stage)) x None y → Turned p x (Made None) y
-              waited y e m = (Work (span x.stage), waits p x.stage going early none_through refused no_task empty e, m)
+              waited y e m = (Work (span x.stage), waits p x.stage going early none_through refused idle empty e, m)
+
+-- a task that is not there
+pub no_task : (o : Option Task) → is_some o ≡ false → o ≡ None
+no_task None e = refl
+no_task (Some t) e = cc
 
 pub ruleset turning = (stops_ended, arrived, finished, stepped)

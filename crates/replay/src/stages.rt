@@ -119,7 +119,10 @@ impl<'a, B: Board, P: Policy> Stage<'a, B, P> {
         requires fit { Fit (batches (P.quotas self.now.policy) P.GREATEST) self.now.stage }
         ensures value { result ≡ is_due self.now.stage }
     {
-        self.next_moment().is_some_and(|moment| moment <= self.now())
+        match self.next_moment() {
+            Some(moment) => moment <= self.now(),
+            None => false,
+        }
     }
 
     /// Cycles to the period's end or to the next packet's moment, whichever comes first.
@@ -212,7 +215,7 @@ impl<'a, B: Board, P: Policy> Stage<'a, B, P> {
         requires fit { Fit (batches (P.quotas self.old.policy) P.GREATEST) self.old.stage }
         ensures value { result ≡ is_some self.old.stage.task }
         ensures after { IfSome self.old.stage.task (λ t. Makes (batches (P.quotas self.old.policy) P.GREATEST) (Work (min t.to_go (span self.old.stage))) self.old None self.new) }
-        ensures same { IfNone self.old.stage.task (self.new ≡ self.old) }
+        ensures same { result ≡ false → self.new ≡ self.old }
     {
         let span = self.span();
         let Some(task) = self.task.as_mut() else {
@@ -243,7 +246,10 @@ impl<'a, B: Board, P: Policy> Stage<'a, B, P> {
         requires step { is_ok (call (batches (P.quotas self.old.policy) P.GREATEST) Step self.old.stage.receiver).0 ≡ false }
         ensures value { Turned (batches (P.quotas self.old.policy) P.GREATEST) self.old result self.new }
     {
-        if self.work_on() || self.fetch().is_ok() {
+        if self.work_on() {
+            return Turn::Made(None);
+        }
+        if self.fetch().is_ok() {
             return Turn::Made(None);
         }
         if self.is_over() {
