@@ -1,3 +1,7 @@
+ghost use Rattle.std.specs.Prelude.{◌≡◌};
+ghost use Rattle.replay.specs.Answers.{counted};
+
+use crate::fates::{Fallen, Fate};
 use std::alloc::Global;
 
 /// How many packets there are of each fate.
@@ -39,4 +43,29 @@ pub struct Tables {
     /// In bytes, since `table` writes its rows in place.
     pub packets: Vec<u8>,
     pub periods: Vec<u8>,
+}
+
+impl FateCounts {
+    /// Of so many packets, by what became of each.
+    pub(crate) fn of(outcomes: &[Fallen]) -> FateCounts
+        ensures value { result ≡ counted outcomes.now }
+    {
+        let mut counts = FateCounts {
+            delivered: 0,
+            bearer_full: 0,
+            queue_full: 0,
+            waiting: 0,
+            pending: 0,
+        };
+        for fallen in outcomes {
+            match fallen.fate {
+                Fate::Delivered => counts.delivered += 1,
+                Fate::BearerFull => counts.bearer_full += 1,
+                Fate::QueueFull => counts.queue_full += 1,
+                Fate::Waiting => counts.waiting += 1,
+                Fate::Pending => counts.pending += 1,
+            }
+        }
+        counts
+    }
 }

@@ -1,11 +1,13 @@
 //! The replay of a capture: what became of each packet, and what each period offered the application.
 #![tactic(auto)]
 
+mod accounts;
 mod answers;
 mod entry;
 mod fates;
 mod refusals;
 mod stages;
+mod texts;
 
 pub use answers::{FateCounts, Figures, Replayed, Tables};
 pub use entry::tables;

@@ -22,7 +22,7 @@ use std::marker::Model;
 pub(crate) const PERIOD: u64 = 64_000;
 
 /// No more periods are closed.
-pub(crate) const MOST_PERIODS: u32 = 1_000;
+pub(crate) const MOST_PERIODS: usize = 1_000;
 
 /// Cycles in a microsecond.
 const CYCLES: u64 = 64;
@@ -265,7 +265,7 @@ impl<'a, B: Board, P: Policy> Stage<'a, B, P> {
         requires fit { Fit (batches (P.quotas self.old.policy) P.GREATEST) self.old.stage }
         ensures value { Turned (batches (P.quotas self.old.policy) P.GREATEST) self.old result self.new }
     {
-        if self.tell().closed >= MOST_PERIODS {
+        if self.tell().closed as usize >= MOST_PERIODS {
             return Turn::Stop;
         }
         if self.is_due() {
