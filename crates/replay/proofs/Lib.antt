@@ -5,6 +5,7 @@ pub mod Fits
 pub mod Gone
 pub mod Led
 pub mod Numbered
+pub mod Played
 pub mod Readings
 pub mod Recorded
 pub mod Refused
@@ -12,3 +13,4 @@ pub mod Rows
 pub mod Ruled
 pub mod Told
 pub mod Turning
+pub mod Written

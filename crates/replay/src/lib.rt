@@ -6,6 +6,7 @@ mod answers;
 mod entry;
 mod fates;
 mod refusals;
+mod runs;
 mod stages;
 mod texts;
 

@@ -1,0 +1,77 @@
+ghost use Rattle.std.specs.Prelude.{◌≡◌, ◌≤◌, length, Ok, IfOk};
+ghost use Rattle.std.specs.List.{AllByRecursion};
+ghost use Rattle.machine.specs.declared.answers.Answer.TheVariants.{Configured};
+ghost use Rattle.machine.specs.declared.calls.Call.TheVariants.{Configure};
+ghost use Rattle.machine.specs.Examples.{standard};
+ghost use Rattle.machine.specs.Machine.{call, fresh};
+ghost use Rattle.machine.specs.State.{idle, running};
+ghost use Rattle.receiver.specs.Receivers.{batches};
+ghost use Rattle.replay.specs.Accounts.{Comes};
+ghost use Rattle.replay.specs.Fit.{Readable};
+ghost use Rattle.replay.specs.Stages.{first_stamp};
+
+use crate::accounts::{Records, note, record};
+use crate::fates::Fallen;
+use crate::stages::{PERIOD, Stage, Turn};
+use board::Board;
+use capture::Captured;
+use machine::{Period, RawSettings, Report};
+use policy::Policy;
+use receiver::Receiver;
+use ring::Ring;
+use std::alloc::{AllocError, Global};
+
+const STANDARD: RawSettings = RawSettings {
+    period: PERIOD,
+    limit: 32_000,
+    size: 32,
+    high: 24,
+    low: 8,
+    hold: 2,
+};
+
+/// What a replay came to.
+pub(crate) struct Outcome<'a> {
+    pub turns: u64,
+    /// What the receiver told at the stop.
+    pub report: Report,
+    /// The fates that were decided, by the packets' numbers.
+    pub fates: Vec<Option<Fallen>>,
+    pub records: Records<'a>,
+}
+
+/// Replays packets on a new receiver.
+pub(crate) fn run<'a, B: Board + Drop, P: Policy + Drop>(
+    alloc: Global,
+    board: B,
+    policy: P,
+    packets: &[Captured],
+    slots: &'a mut [Period],
+) -> Result<Outcome<'a>, AllocError>
+    requires configured { call (batches (P.quotas policy) P.GREATEST) (Configure standard) (idle (B.bearers board)) ≡ (Ok Configured, running standard (fresh (B.bearers board))) }
+    requires readable { AllByRecursion (Readable (length (B.bearers board)) (first_stamp packets.now)) packets.now }
+    requires few { length packets.now ≤ 1024 }
+    requires slots { length slots.old ≡ 1000 }
+    ensures value { IfOk result (λ o. Comes (batches (P.quotas policy) P.GREATEST) (B.bearers board) packets.now o) }
+{
+    let mut fates = vec![in alloc; None; packets.len()]?;
+    let mut records = Ring::new(slots);
+    let mut receiver = Receiver::new(board, policy);
+    receiver.configure(STANDARD).unwrap();
+    let mut stage = Stage::start(receiver, packets);
+    let mut turns = 0;
+    while let Turn::Made(decision) = stage.turn() {
+        turns += 1;
+        let report = stage.tell();
+        note(&mut fates, decision, report.closed);
+        record(&mut records, report);
+    }
+    let report = stage.tell();
+    stage.end();
+    Ok(Outcome {
+        turns,
+        report,
+        fates,
+        records,
+    })
+}
