@@ -2,6 +2,7 @@ pub mod Applies
 pub mod Decided
 pub mod Falls
 pub mod Fits
+pub mod Going
 pub mod Gone
 pub mod Led
 pub mod Numbered

@@ -1,12 +1,14 @@
 -- A replay under way: the turns that were made, and what was written down of them.
-use Rattle.std.proofs.Common.{◌≡◌, ℕ, ◌+◌, ◌<◌, ◌≤◌, true, false, cond, ◌&&◌, ltb, List, [], ◌∷◌, ◌++◌, length, replicate, Some, None, Ok, Option, refl, sym, ap, ◌∙◌, subst, arith, ⊎_elim}
+use Rattle.std.proofs.Common.{◌≡◌, ℕ, ◌+◌, ◌<◌, ◌≤◌, true, false, cond, ◌&&◌, ltb, List, [], ◌∷◌, ◌++◌, length, replicate, Some, None, Ok, Option, Result, refl, sym, ap, ◌∙◌, subst, arith, ⊎_elim}
 use Rattle.std.specs.List.{AllByRecursion}
 use Rattle.std.specs.Option.{option_map_or}
 use Rattle.std.proofs.lemmas.Bool.{cases_lt, lt-ltb, le-ltb}
 use Rattle.std.proofs.lemmas.List.{length-append}
 use Rattle.board.specs.Bearers.{Bearer}
 use Rattle.capture.specs.declared.packets.Captured.{Captured}
+use Rattle.machine.specs.declared.answers.Answer.{Answer}
 use Rattle.machine.specs.declared.answers.Answer.TheVariants.{Configured}
+use Rattle.machine.specs.declared.refusals.Refusal.{Refusal}
 use Rattle.machine.specs.declared.answers.Period.{Period}
 use Rattle.machine.specs.declared.answers.Report.{Report}
 use Rattle.machine.specs.declared.calls.Call.{Call}
@@ -16,15 +18,16 @@ use Rattle.machine.specs.Laws.{Bounded, closed_in}
 use Rattle.machine.specs.Machine.{call, fresh}
 use Rattle.machine.specs.State.{Core, State, idle, running, Batches}
 use Rattle.machine.specs.Trace.{end_of}
+use Rattle.machine.proofs.Kept.{Kept, KeptState, keeps}
 use Rattle.replay.specs.declared.fates.Fallen.{Fallen}
 use Rattle.replay.specs.Accounts.{noted_record}
 use Rattle.replay.specs.Fates.{decided, fates, noted}
-use Rattle.replay.specs.Fit.{Fit}
+use Rattle.replay.specs.Fit.{Fit, Readable}
 use Rattle.replay.specs.Runs.{entries, records}
-use Rattle.replay.specs.Stages.{Stage, after, closed, core, start, turn, Leads}
+use Rattle.replay.specs.Stages.{Stage, after, closed, core, first_stamp, start, turn, Leads}
 use Rattle.replay.specs.Turns.{report}
 use Rattle.replay.proofs.Falls.{fall, falls, start_falls}
-use Rattle.replay.proofs.Fits.{stays_fit}
+use Rattle.replay.proofs.Fits.{start_fits, stays_fit}
 use Rattle.replay.proofs.Led.{leads_keep, leads_push}
 use Rattle.replay.proofs.Recorded.{Closes, Grown, grows, fates_grow, fates_start, length-records}
 use Rattle.replay.proofs.Rows.{entries_end}
@@ -46,7 +49,7 @@ one_noted r ds room d e l m =
     ap (λ o. option_map_or (λ (f : Period). cond (ltb (length ds) r.closed && ltb (length ds) room) (ds ++ f ∷ []) ds) o ds) e
     ∙ rw (lt-ltb (length ds) r.closed l, lt-ltb (length ds) room m) refl
 
-module _ (p : Batches) (bounded : Bounded p) (bs : List Bearer) (ps : List Captured) where
+module _ (p : Batches) (bs : List Bearer) (ps : List Captured) where
   -- what turns have led to: x, with fs and ds written down
   pub record Played (turns : ℕ) (x : Stage) (fs : List (Option Fallen)) (ds : List Period) : Type 0 where
     pub calls : List Call
@@ -56,9 +59,16 @@ module _ (p : Batches) (bounded : Bounded p) (bs : List Bearer) (ps : List Captu
     pub records_are : ds ≡ records (entries p bs calls) (closed x)
     pub falling : turns + fall x ≤ 320321024
 
-  module _ (configured : call p (Configure standard) (idle bs) ≡ (Ok Configured, running standard (fresh bs))) (fits : Fit p (start bs ps)) where
-    pub begins : length ps ≤ 1024 → Played 0 (start bs ps) (replicate (length ps) None) []
-    begins few = record {
+  -- of packets as a capture has them, on a receiver that can be configured
+  module _ (bounded : Bounded p) (configured : call p (Configure standard) (idle bs) ≡ (Ok Configured, running standard (fresh bs)))
+      (readable : AllByRecursion (Readable (length bs) (first_stamp ps)) ps) (few : length ps ≤ 1024) where
+    pub fits : Fit p (start bs ps)
+    fits =
+        let kept : Kept p standard (fresh bs) = subst (KeptState p) (ap (λ (d : Result Answer Refusal × State). d.1) configured) (keeps p bounded (Configure standard) (idle bs) tt) in
+        start_fits p bs ps kept few readable
+
+    pub begins : Played 0 (start bs ps) (replicate (length ps) None) []
+    begins = record {
       calls = [];
       leads = refl;
       turns_are = refl;

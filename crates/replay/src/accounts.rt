@@ -13,8 +13,8 @@ use std::alloc::{AllocError, Global};
 pub(crate) type Records<'a> = Ring<'a, Period, { MOST_PERIODS }>;
 
 /// Notes a fate that was decided while so many periods were closed.
-pub(crate) fn note(fates: &mut [Option<Fallen>], decision: Option<Decision>, period: u32)
-    ensures after { fates.new ≡ noted decision period fates.old }
+pub(crate) fn note(fates: &mut Vec<Option<Fallen>>, decision: Option<Decision>, period: u32)
+    ensures after { fates.new.items ≡ noted decision period fates.old.items }
 {
     let Some(Decision { number, fate }) = decision else {
         return;
