@@ -5,10 +5,8 @@ use Rattle.board.specs.Bearers.{Bearer}
 use Rattle.capture.specs.declared.packets.Captured.{Captured}
 use Rattle.machine.specs.declared.answers.Answer.TheVariants.{Configured}
 use Rattle.machine.specs.declared.answers.Period.{Period}
-use Rattle.machine.specs.declared.calls.Call.{Call}
 use Rattle.machine.specs.declared.calls.Call.TheVariants.{Configure}
 use Rattle.machine.specs.Examples.{standard}
-use Rattle.machine.specs.Laws.{Bounded}
 use Rattle.machine.specs.Machine.{call, fresh}
 use Rattle.machine.specs.State.{idle, running, Batches}
 use Rattle.receiver.specs.Receivers.{batches}
@@ -19,13 +17,12 @@ use Rattle.replay.specs.declared.fates.Fallen.{Fallen}
 use Rattle.replay.specs.declared.runs.Outcome.{Outcome}
 use Rattle.replay.specs.declared.stages.Turn.TheVariants.{Made, Stop}
 use Rattle.replay.specs.Accounts.{noted_record, Comes}
-use Rattle.replay.specs.Fates.{decided, fates, noted}
+use Rattle.replay.specs.Fates.{noted}
 use Rattle.replay.specs.Fit.{Fit, Readable}
-use Rattle.replay.specs.Runs.{entries, records}
-use Rattle.replay.specs.Stages.{Stage, after, closed, core, first_stamp, start, turn}
+use Rattle.replay.specs.Stages.{after, closed, core, first_stamp, start, turn}
 use Rattle.replay.specs.Turns.{Makes, Playing, Turned, report}
 use Rattle.replay.proofs.Falls.{fall, falls}
-use Rattle.replay.proofs.Played.{Played, begins, fit, fits, goes_on}
+use Rattle.replay.proofs.Played.{Played, begins, fit, goes_on}
 
 module _ {P : Type 0} (quotas : P → ℕ → ℕ → ℕ) (greatest : ℕ) (bs : List Bearer) (ps : List Captured) (q : P) where
   abbrev policy : P → Batches

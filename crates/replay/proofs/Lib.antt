@@ -4,7 +4,10 @@ pub mod Falls
 pub mod Fits
 pub mod Going
 pub mod Gone
+pub mod Kept
+pub mod Laws
 pub mod Led
+pub mod Lent
 pub mod Numbered
 pub mod Played
 pub mod Readings
@@ -12,6 +15,7 @@ pub mod Recorded
 pub mod Refused
 pub mod Rows
 pub mod Ruled
+pub mod Standard
 pub mod Told
 pub mod Turning
 pub mod Written

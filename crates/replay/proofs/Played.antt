@@ -1,5 +1,5 @@
 -- A replay under way: the turns that were made, and what was written down of them.
-use Rattle.std.proofs.Common.{◌≡◌, ℕ, ◌+◌, ◌<◌, ◌≤◌, true, false, cond, ◌&&◌, ltb, List, [], ◌∷◌, ◌++◌, length, replicate, Some, None, Ok, Option, Result, refl, sym, ap, ◌∙◌, subst, arith, ⊎_elim}
+use Rattle.std.proofs.Common.{◌≡◌, ℕ, ◌+◌, ◌<◌, ◌≤◌, false, cond, ◌&&◌, ltb, List, [], ◌∷◌, ◌++◌, length, replicate, Some, None, Ok, Option, Result, refl, sym, ap, ◌∙◌, subst, arith, ⊎_elim}
 use Rattle.std.specs.List.{AllByRecursion}
 use Rattle.std.specs.Option.{option_map_or}
 use Rattle.std.proofs.lemmas.Bool.{cases_lt, lt-ltb, le-ltb}
@@ -16,7 +16,7 @@ use Rattle.machine.specs.declared.calls.Call.TheVariants.{Configure}
 use Rattle.machine.specs.Examples.{standard}
 use Rattle.machine.specs.Laws.{Bounded, closed_in}
 use Rattle.machine.specs.Machine.{call, fresh}
-use Rattle.machine.specs.State.{Core, State, idle, running, Batches}
+use Rattle.machine.specs.State.{State, idle, running, Batches}
 use Rattle.machine.specs.Trace.{end_of}
 use Rattle.machine.proofs.Kept.{Kept, KeptState, keeps}
 use Rattle.replay.specs.declared.fates.Fallen.{Fallen}
@@ -29,7 +29,7 @@ use Rattle.replay.specs.Turns.{report}
 use Rattle.replay.proofs.Falls.{fall, falls, start_falls}
 use Rattle.replay.proofs.Fits.{start_fits, stays_fit}
 use Rattle.replay.proofs.Led.{leads_keep, leads_push}
-use Rattle.replay.proofs.Recorded.{Closes, Grown, grows, fates_grow, fates_start, length-records}
+use Rattle.replay.proofs.Recorded.{Grown, grows, fates_grow, fates_start, length-records}
 use Rattle.replay.proofs.Rows.{entries_end}
 
 -- The record of a period that closed is noted once, where there is room for it.

@@ -39,7 +39,7 @@ use Rattle.replay.proofs.Numbered.{numbered_in, in_order}
 use Rattle.replay.proofs.Ruled.{Ruled, ruled}
 
 -- a row, and the decision that it comes from
-length-all : (numbered closed i : ℕ) (fs : List (Option Fallen)) → length (all_in_the_end numbered closed i fs) ≡ length fs
+pub length-all : (numbered closed i : ℕ) (fs : List (Option Fallen)) → length (all_in_the_end numbered closed i fs) ≡ length fs
 length-all numbered closed i [] = refl
 length-all numbered closed i (f ∷ fs) = omega (arith, length-all numbered closed (i + 1) fs)
 

@@ -5,7 +5,7 @@ use Rattle.capture.specs.declared.refusals.ReadError.{ReadError}
 use Rattle.capture.specs.declared.refusals.ReadError.TheVariants as reading
 use Rattle.capture.specs.Meaning.{Meaning}
 use Rattle.machine.specs.Examples.{four, standard_board}
-use Rattle.table.specs.Memory.{fits}
+use Rattle.table.specs.Memory.{fits, left}
 use Rattle.replay.specs.declared.answers.FateCounts.{FateCounts}
 use Rattle.replay.specs.declared.answers.Figures.{Figures}
 use Rattle.replay.specs.declared.answers.Replayed.{Replayed}
@@ -79,3 +79,29 @@ pub record Tabled (m : Meaning) (t : Tables) : Type 0 where
   pub figures_are : t.figures ≡ figures captured run
   pub packets : t.packets.items ≡ packets_text captured run
   pub periods : t.periods.items ≡ periods_text captured run
+
+-- whatever run the capture has keeps P, if it is read
+abbrev pub EveryRun : Meaning → ((ps : List Captured) → StandardRun ps → Type 0) → Type 0
+EveryRun (Ok ps) P = (r : StandardRun ps) → P ps r
+EveryRun (Err f) P = Unit {0}
+
+-- what a replay answers and leaves in the memory that is lent for its tables
+pub record Replays (m : Meaning) (packets periods : List ℕ) (answered : Replayed) (packets_left periods_left : List ℕ) : Type 0 where
+  pub captured : List Captured
+  pub means : m ≡ Ok captured
+  pub run : StandardRun captured
+  pub answer_is : answer captured run packets periods ≡ Ok answered
+  pub packets_written : packets_left ≡ left packets 0 (packets_text captured run)
+  pub periods_written : periods_left ≡ left periods 0 (periods_text captured run)
+
+-- how it is refused where no want of memory of the host's comes between
+pub record Small (m : Meaning) (packets periods : List ℕ) (need : ℕ) : Type 0 where
+  pub captured : List Captured
+  pub means : m ≡ Ok captured
+  pub run : StandardRun captured
+  pub answer_is : answer captured run packets periods ≡ Err (TooSmall need)
+
+abbrev pub Declines : Meaning → List ℕ → List ℕ → ReplayError → Type 0
+Declines m packets periods (Refused (Unreadable f)) = m ≡ Err f
+Declines m packets periods (Refused (TooSmall need)) = Small m packets periods need
+Declines m packets periods Memory = Unit {0}

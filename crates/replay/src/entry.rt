@@ -1,16 +1,108 @@
-ghost use Rattle.std.specs.Prelude.{◌≡◌, IfOk, IfErr};
+ghost use Rattle.std.specs.Prelude.{◌≡◌, ◌≤◌, length, Ok, IfOk, IfErr, OnOk, OnErr};
+ghost use Rattle.std.specs.List.{AllByRecursion};
 ghost use Rattle.capture.specs.Savefile.{meaning};
-ghost use Rattle.replay.specs.Answers.{Refuses, Tabled};
+ghost use Rattle.machine.specs.Examples.{four, standard_board};
+ghost use Rattle.replay.specs.Answers.{Declines, EveryRun, Refuses, Replays, Tabled};
+ghost use Rattle.replay.specs.ByLedger.{RowsByLedger};
+ghost use Rattle.replay.specs.Fit.{Readable};
+ghost use Rattle.replay.specs.Lawful.{Lawful};
+ghost use Rattle.replay.specs.Runs.{entries};
+ghost use Rattle.replay.specs.Stages.{first_stamp};
 
-use crate::answers::Tables;
-use capture::ReadError;
-use std::alloc::Global;
+use crate::accounts::in_the_end;
+use crate::answers::{FateCounts, Figures, Replayed, Tables};
+use crate::refusals::{Refusal, ReplayError};
+use crate::runs::run;
+use crate::stages::MOST_PERIODS;
+use crate::texts::{packets_table, periods_table};
+use board::{MailboxBearer, Packet, Pair, RingBearer};
+use capture::{Captured, ReadError, read};
+use machine::Period;
+use policy::Fixed;
+use std::alloc::{AllocError, Global};
+use table::put;
 
-/// Replays a capture, and answers its tables as texts.
+/// How many bearers the replay's board shows.
+const SHOWN: usize = 3;
+
+/// What stands in a slot in which no packet has been.
+const BLANK: Packet = Packet {
+    number: 0,
+    length: 0,
+    tag: 0,
+};
+
+/// What stands in a slot in which no record has been.
+const NO_PERIOD: Period = Period {
+    offered: 0,
+    network: 0,
+};
+
+/// Replays packets on the standard receiver, and answers the tables.
+#[tactic(auto, using(crate::proofs::Standard::configured))]
+fn replayed(alloc: Global, packets: &[Captured]) -> Result<Tables, AllocError>
+    requires readable { AllByRecursion (Readable 3 (first_stamp packets.now)) packets.now }
+    requires few { length packets.now ≤ 1024 }
+    ensures value { IfOk result (λ t. Tabled (Ok packets.now) t) }
+{
+    let (mut first, mut third) = ([BLANK; 8], [BLANK; 16]);
+    let board = Pair(
+        RingBearer::new(&mut first),
+        Pair(MailboxBearer::new(4), RingBearer::new(&mut third)),
+    );
+    let mut slots = [NO_PERIOD; MOST_PERIODS];
+    let outcome = run(alloc, board, Fixed::new(4), packets, &mut slots)?;
+    let outcomes = in_the_end(alloc, outcome.report, &outcome.fates)?;
+    Ok(Tables {
+        figures: Figures {
+            packets: packets.len(),
+            turns: outcome.turns,
+            periods: outcome.report.closed,
+            fates: FateCounts::of(&outcomes),
+        },
+        packets: packets_table(alloc, packets, &outcomes)?,
+        periods: periods_table(alloc, &outcome.records)?,
+    })
+}
+
+/// Replays a capture on the standard receiver, and answers its tables as texts.
+#[tactic(auto, using(crate::proofs::Readings::readable, crate::proofs::Readings::few))]
 pub fn tables(alloc: Global, bytes: &[u8]) -> Result<Tables, ReadError>
-    requires stub { ⊥ }
     ensures value { IfOk result (λ t. Tabled (meaning 3 bytes.now) t) }
     ensures refused { IfErr result (λ e. Refuses (meaning 3 bytes.now) e) }
 {
-    Err(ReadError::Memory)
+    let packets = read(alloc, bytes, SHOWN)?;
+    replayed(alloc, &packets).map_err(|_| ReadError::Memory)
+}
+
+/// Replays a capture on the standard receiver, and writes its tables into memory that is lent for them.
+pub fn replay(
+    alloc: Global,
+    bytes: &[u8],
+    packets: &mut [u8],
+    periods: &mut [u8],
+) -> Result<Replayed, ReplayError>
+    ensures value { IfOk result (λ d. Replays (meaning 3 bytes.now) packets.old periods.old d packets.new periods.new) }
+    ensures refused { IfErr result (λ e. Declines (meaning 3 bytes.now) packets.old periods.old e) }
+    ensures packets_same { OnErr result (packets.new ≡ packets.old) }
+    ensures periods_same { OnErr result (periods.new ≡ periods.old) }
+    ensures by_ledger { OnOk result (EveryRun (meaning 3 bytes.now) (RowsByLedger four standard_board)) }
+    ensures laws { OnOk result (EveryRun (meaning 3 bytes.now) (λ _ r. Lawful four standard_board (entries four standard_board r.calls))) }
+{
+    let tables = tables(alloc, bytes)?;
+    let (packets_len, periods_len) = (tables.packets.len(), tables.periods.len());
+    if packets.len() < packets_len {
+        return Err(Refusal::TooSmall(packets_len).into());
+    }
+    if periods.len() < periods_len {
+        return Err(Refusal::TooSmall(periods_len).into());
+    }
+    // Neither is refused: both tables fit.
+    let _ = put(packets, 0, tables.packets.as_slice());
+    let _ = put(periods, 0, tables.periods.as_slice());
+    Ok(Replayed {
+        figures: tables.figures,
+        packets_len,
+        periods_len,
+    })
 }

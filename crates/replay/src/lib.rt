@@ -11,6 +11,6 @@ mod stages;
 mod texts;
 
 pub use answers::{FateCounts, Figures, Replayed, Tables};
-pub use entry::tables;
+pub use entry::{replay, tables};
 pub use fates::{Fallen, Fate};
 pub use refusals::{Refusal, ReplayError};

@@ -31,6 +31,7 @@ const STANDARD: RawSettings = RawSettings {
 };
 
 /// What a replay came to.
+#[derive(Drop)]
 pub(crate) struct Outcome<'a> {
     pub turns: u64,
     /// What the receiver told at the stop.

@@ -1,4 +1,4 @@
-use Rattle.std.proofs.Common.{◌≡◌, None, rules, ap, sym, subst, ◌∙◌}
+use Rattle.std.proofs.Common.{◌≡◌, true, false, None, rules, ap, sym, subst, ◌∙◌}
 use Rattle.machine.specs.Machine.{any_left}
 use Rattle.machine.specs.declared.calls.Call.TheVariants.{Fetch, Work}
 use Rattle.machine.specs.State.{Batches}
@@ -36,8 +36,8 @@ returns-then-is_over g c =
     let p : Playing _ → Batches = λ v. batches (g.P.Policy.quotas v.policy) g.P.Policy.GREATEST in
     let idle : c.work_on.new.self ≡ x = c.work_on.ensures.same c.if-work_on.false in
     let same : c.fetch.new.self ≡ x = if_err c.fetch.result (search rules) c.fetch.ensures.same ∙ idle in
-    let none = sym (ap (λ (v : Playing _). any_left (core v.stage.receiver).queue) idle) ∙ sym c.fetch.ensures.value ∙ search rules in
-    let over = sym (ap (λ (v : Playing _). is_over v.stage) same) ∙ search rules in
+    let none : any_left (core x.stage.receiver).queue ≡ false = sym (ap (λ (v : Playing _). any_left (core v.stage.receiver).queue) idle) ∙ sym c.fetch.ensures.value ∙ search rules in
+    let over : is_over x.stage ≡ true = sym (ap (λ (v : Playing _). is_over v.stage) same) ∙ search rules in
     record {
       value = ((stops_over (p x) x c.requires.open c.requires.due c.requires.through c.requires.step (no_task x.stage.task (search rules)) none over).0, same);
     }
@@ -55,8 +55,8 @@ returns g c =
     let p : Playing _ → Batches = λ v. batches (g.P.Policy.quotas v.policy) g.P.Policy.GREATEST in
     let idle : c.work_on.new.self ≡ x = c.work_on.ensures.same c.if-work_on.false in
     let same : c.fetch.new.self ≡ x = if_err c.fetch.result (search rules) c.fetch.ensures.same ∙ idle in
-    let none = sym (ap (λ (v : Playing _). any_left (core v.stage.receiver).queue) idle) ∙ sym c.fetch.ensures.value ∙ search rules in
-    let over = sym (ap (λ (v : Playing _). is_over v.stage) same) ∙ search rules in
+    let none : any_left (core x.stage.receiver).queue ≡ false = sym (ap (λ (v : Playing _). any_left (core v.stage.receiver).queue) idle) ∙ sym c.fetch.ensures.value ∙ search rules in
+    let over : is_over x.stage ≡ false = sym (ap (λ (v : Playing _). is_over v.stage) same) ∙ search rules in
     record {
       value = waited (p x) x c.requires.open c.requires.due c.requires.through c.requires.step (no_task x.stage.task (search rules)) none c.wait.new.self
           over (subst (λ (v : Playing _). Makes (p v) (Work (span v.stage)) v None c.wait.new.self) same c.wait.ensures.after);

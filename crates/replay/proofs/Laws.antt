@@ -1,0 +1,34 @@
+-- The turns of a replay are calls, so that every law of load holds of them.
+use Rattle.std.proofs.Common.{List}
+use Rattle.board.specs.Bearers.{Bearer}
+use Rattle.machine.specs.declared.calls.Call.{Call}
+use Rattle.machine.specs.Laws.{Bounded}
+use Rattle.machine.specs.State.{idle, Batches}
+use Rattle.machine.specs.Trace.{trace}
+use Rattle.machine.proofs.Agreement.{ledger_agrees, true_answers}
+use Rattle.machine.proofs.Batches.{bounded_batches}
+use Rattle.machine.proofs.Order.{arrival_order}
+use Rattle.machine.proofs.Places.{one_place}
+use Rattle.machine.proofs.Room.{bounded_memory}
+use Rattle.machine.proofs.Runs.{refusals_leave}
+use Rattle.machine.proofs.Share.{share, true_records}
+use Rattle.machine.proofs.Tidy.{never_deaf, one_way, quiet}
+use Rattle.machine.proofs.Turns.{equal_turns}
+use Rattle.replay.specs.Lawful.{Lawful}
+
+pub lawful : (p : Batches) → Bounded p → (bs : List Bearer) (cs : List Call) → Lawful p bs (trace p (idle bs) cs)
+lawful p bounded bs cs = record {
+  refusals_leave = refusals_leave p bounded bs cs;
+  share = share p bounded bs cs;
+  true_records = true_records p bounded bs cs;
+  ledger_agrees = ledger_agrees p bounded bs cs;
+  true_answers = true_answers p bounded bs cs;
+  one_place = one_place p bounded bs cs;
+  arrival_order = arrival_order p bounded bs cs;
+  never_deaf = never_deaf p bounded bs cs;
+  one_way = one_way p bounded bs cs;
+  equal_turns = equal_turns p bounded bs cs;
+  bounded_batches = bounded_batches p bounded bs cs;
+  quiet = quiet p bounded bs cs;
+  bounded_memory = bounded_memory p bounded bs cs;
+}
