@@ -8,6 +8,8 @@ mod fates;
 mod refusals;
 mod runs;
 mod stages;
+#[cfg(test)]
+mod tests;
 mod texts;
 
 pub use answers::{FateCounts, Figures, Replayed, Tables};
