@@ -5,7 +5,7 @@ use std::alloc::{AllocError, Global};
 use std::test::Fail;
 
 /// A packet of a capture: its bearer, its length and its microseconds.
-type Line = (u8, u32, u32);
+type Line = (u8, u16, u32);
 
 /// Three packets on three bearers, the last of them served in the second period.
 const THREE: [Line; 3] = [(0, 20, 0), (1, 100, 10), (2, 384, 1_000)];
@@ -34,7 +34,7 @@ fn savefile(alloc: Global, order: ByteOrder, lines: &[Line]) -> Result<Vec<u8>, 
     put_number(&mut file, order, 4_u16.to_be_bytes())?;
     file.extend_from_slice(&[0; 16])?;
     for (bearer, length, microseconds) in lines {
-        for number in [0, *microseconds, 1, *length + 1] {
+        for number in [0, *microseconds, 1, u32::from(*length) + 1] {
             put_number(&mut file, order, number.to_be_bytes())?;
         }
         file.push(*bearer)?;
