@@ -1,5 +1,5 @@
--- The number and the place of each refusal.
-use Rattle.std.specs.Prelude.{ℕ}
+-- The number and the place of each refusal, and the reason in words.
+use Rattle.std.specs.Prelude.{ℕ, List, codes}
 use Rattle.capture.specs.declared.refusals.Refusal.{Refusal}
 use Rattle.capture.specs.declared.refusals.Refusal.TheVariants.{TooLong, NoHeader, PastEnd, NoData, NotShown, TooMany, TooLate, BadLength}
 
@@ -23,3 +23,13 @@ place (NotShown at) = at
 place (TooMany at) = at
 place (TooLate at) = at
 place (BadLength at) = at
+
+abbrev pub reason : Refusal → List ℕ
+reason TooLong = codes "it is longer than 65,536 bytes"
+reason NoHeader = codes "it does not begin with a savefile's header"
+reason (PastEnd at) = codes "a record runs past the end of the file"
+reason (NoData at) = codes "a record has no captured data"
+reason (NotShown at) = codes "a record's bearer is not shown"
+reason (TooMany at) = codes "it has more than 1,024 packets"
+reason (TooLate at) = codes "a packet is a second or more after the first"
+reason (BadLength at) = codes "a packet's length is not 1 to 384 octets"

@@ -62,6 +62,11 @@ impl Refusal {
 
 /// The reason in words.
 impl fmt::Display for Refusal {
+    ghost use Rattle.std.specs.Prelude.{Some};
+    ghost use Rattle.capture.specs.Refusals.{reason};
+
+    ghost output = { λ f. Some (reason f) };
+
     fn fmt<W: fmt::Write>(&self, f: &mut fmt::Formatter<W>) -> fmt::Result {
         f.write_str(match self {
             Refusal::TooLong => "it is longer than 65,536 bytes",

@@ -1,0 +1,2 @@
+pub mod Report
+pub mod Words
