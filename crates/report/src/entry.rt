@@ -21,7 +21,7 @@ fn refused(alloc: Global, refusal: Refusal) -> Result<Report, AllocError>
     })
 }
 
-/// ReportsTable a capture, and answers what is printed of it.
+/// Replays a capture, and answers what is printed of it.
 #[tactic(auto, using(crate::proofs::Reported::reported))]
 pub fn report(alloc: Global, bytes: &[u8], table: Table) -> Result<Report, AllocError>
     ensures value { IfOk result (λ r. Reports (meaning 3 bytes.now) table r) }
