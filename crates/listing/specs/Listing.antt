@@ -30,10 +30,14 @@ record_rows index first (p ∷ ps) = row_of_record index first p ∷ record_rows
 abbrev pub records : List Captured → List (List Field)
 records ps = heading ∷ record_rows 0 (stamped ps) ps
 
--- the table, or the refusal's number and place as a row
+-- of a refused capture the refusal's number and place, as a row
+abbrev pub refusal_row : Refusal → List ℕ
+refusal_row f = row (field.Number (number f) ∷ field.Number (place f) ∷ [])
+
+-- otherwise the table
 abbrev pub printed : Meaning → List ℕ
 printed (Ok ps) = table (records ps)
-printed (Err f) = row (field.Number (number f) ∷ field.Number (place f) ∷ [])
+printed (Err f) = refusal_row f
 
 -- how many packets there are, or the refusal
 abbrev pub counted : Meaning → Result ℕ Refusal

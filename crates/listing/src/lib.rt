@@ -8,11 +8,12 @@ ghost use Rattle.listing.specs.Listing.{printed, counted};
 use capture::{ReadError, Refusal, read};
 use rows::records_table;
 use std::alloc::{AllocError, Global};
-use table::push_row;
 
 mod rows;
 #[cfg(test)]
 mod tests;
+
+pub use rows::refusal_row;
 
 /// How many bearers the replay's board shows.
 const SHOWN: usize = 3;
@@ -36,15 +37,10 @@ pub fn list(alloc: Global, bytes: &[u8]) -> Result<Listing, AllocError>
             outcome: Ok(packets.len()),
             text: records_table(alloc, &packets)?,
         }),
-        Err(ReadError::Refused(refusal)) => {
-            let mut text = Vec::new(alloc);
-            let fields = [u64::from(refusal.number()).into(), refusal.place().into()];
-            push_row(&mut text, &fields)?;
-            Ok(Listing {
-                outcome: Err(refusal),
-                text,
-            })
-        }
+        Err(ReadError::Refused(refusal)) => Ok(Listing {
+            outcome: Err(refusal),
+            text: refusal_row(alloc, refusal)?,
+        }),
         Err(ReadError::Memory) => Err(AllocError),
     }
 }

@@ -1,8 +1,8 @@
 ghost use Rattle.std.specs.Prelude.{◌≡◌, IfOk};
 ghost use Rattle.table.specs.Text.{table};
-ghost use Rattle.listing.specs.Listing.{stamped, row_of_record, records};
+ghost use Rattle.listing.specs.Listing.{stamped, row_of_record, records, refusal_row};
 
-use capture::Captured;
+use capture::{Captured, Refusal};
 use std::alloc::{AllocError, Global};
 use table::{Field, Word, push_row};
 
@@ -37,5 +37,15 @@ pub(crate) fn records_table(alloc: Global, packets: &[Captured]) -> Result<Vec<u
     for (index, packet) in packets.iter().enumerate() {
         push_row(&mut text, &record_row(index, first, *packet))?;
     }
+    Ok(text)
+}
+
+/// What is printed of a capture that is refused: the refusal's number and place, as a row.
+pub fn refusal_row(alloc: Global, refusal: Refusal) -> Result<Vec<u8>, AllocError>
+    ensures value { IfOk result (λ text. text.items ≡ refusal_row refusal) }
+{
+    let mut text = Vec::new(alloc);
+    let fields = [u64::from(refusal.number()).into(), refusal.place().into()];
+    push_row(&mut text, &fields)?;
     Ok(text)
 }

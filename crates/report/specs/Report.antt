@@ -1,12 +1,10 @@
 -- What is printed of a capture's replay.
-use Rattle.std.specs.Prelude.{◌≡◌, ℕ, List, [], ◌∷◌, Ok, Err}
+use Rattle.std.specs.Prelude.{◌≡◌, ℕ, List, Ok, Err}
 use Rattle.capture.specs.declared.packets.Captured.{Captured}
 use Rattle.capture.specs.declared.refusals.Refusal.{Refusal}
 use Rattle.capture.specs.Meaning.{Meaning}
-use Rattle.capture.specs.Refusals.{number, place}
+use Rattle.listing.specs.Listing.{refusal_row}
 use Rattle.replay.specs.Answers.{StandardRun, figures, packets_text, periods_text}
-use Rattle.table.specs.declared.fields.Field.TheVariants.{Number}
-use Rattle.table.specs.Text.{row}
 use Rattle.report.specs.declared.reports.Report.{Report}
 use Rattle.report.specs.declared.reports.Table.{Table}
 use Rattle.report.specs.declared.reports.Table.TheVariants.{Packets, Periods}
@@ -15,10 +13,6 @@ use Rattle.report.specs.declared.reports.Table.TheVariants.{Packets, Periods}
 abbrev pub chosen : Table → List ℕ → List ℕ → List ℕ
 chosen Packets packets periods = packets
 chosen Periods packets periods = periods
-
--- the number and the place of a refusal, as a row
-abbrev pub refusal_row : Refusal → List ℕ
-refusal_row f = row (Number (number f) ∷ Number (place f) ∷ [])
 
 -- the replay of these packets: its figures, and the text of the table
 pub record ReportsTable (ps : List Captured) (table : Table) (r : Report) : Type 0 where
