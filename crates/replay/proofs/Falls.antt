@@ -25,7 +25,8 @@ use Rattle.machine.proofs.Periods.{settled}
 use Rattle.replay.specs.Fit.{Fit}
 use Rattle.replay.specs.Stages.{Task, Stage, start, core, now, span, handed, turn, after}
 use Rattle.replay.proofs.Applies.{Applies, applies, arrives, finishes, steps, works, fetches, idles, ended, over, span_least}
-use Rattle.replay.proofs.Fits.{left_by, came, here, there, Goes, turn_goes}
+use Rattle.replay.proofs.Fits.{here, there, Goes, turn_goes}
+use Rattle.replay.proofs.OneCall.{left_by, came}
 
 -- a grant with packets left has two steps at least to go, and one with none left its close
 abbrev pub granted : Option Grant → ℕ

@@ -18,10 +18,6 @@ module _ (p : Batches) where
 
   -- what turns keep
   module _ (I : Stage → Type 0) (keep : (x : Stage) → I x → (c : Call) → turn p x ≡ Some c → I (after p c x)) where
-    pub leads_keep : (x : Stage) (cs : List Call) (y : Stage) → I x → Leads p x cs y → I y
-    leads_keep x [] y i l = subst I l i
-    leads_keep x (c ∷ cs) y i l = leads_keep (after p c x) cs y (keep x i c l.0) l.1
-
     -- an entry of the trace is what a turn's call comes to, made at a stage of which I holds
     pub record Turned (e : Entry) : Type 0 where
       pub stage : Stage

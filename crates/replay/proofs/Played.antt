@@ -1,5 +1,5 @@
 -- A replay under way: the turns that were made, and what was written down of them.
-use Rattle.std.proofs.Common.{◌≡◌, ℕ, ◌+◌, ◌<◌, ◌≤◌, false, cond, ◌&&◌, ltb, List, [], ◌∷◌, ◌++◌, length, replicate, Some, None, Ok, Option, Result, refl, sym, ap, ◌∙◌, subst, arith, ⊎_elim}
+use Rattle.std.proofs.Common.{◌≡◌, ℕ, ◌+◌, ◌<◌, ◌≤◌, false, cond, ◌&&◌, ltb, List, [], ◌∷◌, ◌++◌, length, replicate, Some, None, Ok, Option, Result, refl, sym, ap, ◌∙◌, arith, ⊎_elim}
 use Rattle.std.specs.List.{AllByRecursion}
 use Rattle.std.specs.Option.{option_map_or}
 use Rattle.std.proofs.lemmas.Bool.{cases_lt, lt-ltb, le-ltb}
@@ -18,7 +18,6 @@ use Rattle.machine.specs.Laws.{Bounded, closed_in}
 use Rattle.machine.specs.Machine.{call, fresh}
 use Rattle.machine.specs.State.{State, idle, running, Batches}
 use Rattle.machine.specs.Trace.{end_of}
-use Rattle.machine.proofs.Kept.{Kept, KeptState, keeps}
 use Rattle.replay.specs.declared.fates.Fallen.{Fallen}
 use Rattle.replay.specs.Accounts.{noted_record}
 use Rattle.replay.specs.Fates.{decided, fates, noted}
@@ -28,9 +27,8 @@ use Rattle.replay.specs.Stages.{Stage, after, closed, core, first_stamp, start, 
 use Rattle.replay.specs.Turns.{report}
 use Rattle.replay.proofs.Falls.{fall, falls, start_falls}
 use Rattle.replay.proofs.Fits.{start_fits, stays_fit}
-use Rattle.replay.proofs.Led.{leads_keep, leads_push}
-use Rattle.replay.proofs.Recorded.{Grown, grows, fates_grow, fates_start, length-records}
-use Rattle.replay.proofs.Rows.{entries_end}
+use Rattle.replay.proofs.Led.{leads_push}
+use Rattle.replay.proofs.Recorded.{Grown, grows, end_grow, fates_grow, fates_start, length-records}
 
 -- The record of a period that closed is noted once, where there is room for it.
 no_room : (r : Report) (ds : List Period) (room : ℕ) → r.closed ≤ length ds → noted_record room r ds ≡ ds
@@ -54,70 +52,63 @@ module _ (p : Batches) (bs : List Bearer) (ps : List Captured) where
   pub record Played (turns : ℕ) (x : Stage) (fs : List (Option Fallen)) (ds : List Period) : Type 0 where
     pub calls : List Call
     pub leads : Leads p (start bs ps) calls x
+    pub ends : end_of (idle bs) (entries p bs calls) ≡ x.receiver
+    pub fit : Fit p x
     pub turns_are : turns ≡ length calls
     pub fates_are : fs ≡ fates (length ps) (entries p bs calls)
     pub records_are : ds ≡ records (entries p bs calls) (closed x)
     pub falling : turns + fall x ≤ 320321024
 
-  -- of packets as a capture has them, on a receiver that can be configured
-  module _ (bounded : Bounded p) (configured : call p (Configure standard) (idle bs) ≡ (Ok Configured, running standard (fresh bs)))
-      (readable : AllByRecursion (Readable (length bs) (first_stamp ps)) ps) (few : length ps ≤ 1024) where
-    pub fits : Fit p (start bs ps)
-    fits =
-        let kept : Kept p standard (fresh bs) = subst (KeptState p) (ap (λ (d : Result Answer Refusal × State). d.1) configured) (keeps p bounded (Configure standard) (idle bs) tt) in
-        start_fits p bs ps kept few readable
+  -- the start, of packets as a capture has them, on a receiver that can be configured
+  pub begins : Bounded p → call p (Configure standard) (idle bs) ≡ (Ok Configured, running standard (fresh bs)) →
+      AllByRecursion (Readable (length bs) (first_stamp ps)) ps → length ps ≤ 1024 → Played 0 (start bs ps) (replicate (length ps) None) []
+  begins bounded configured readable few = record {
+    calls = [];
+    leads = refl;
+    ends = ap (λ (d : Result Answer Refusal × State). d.1) configured;
+    fit = start_fits p bounded bs ps configured readable few;
+    turns_are = refl;
+    fates_are = sym (fates_start p bs configured (length ps));
+    records_are = refl;
+    falling = omega (arith, start_falls bs ps few);
+  }
 
-    pub begins : Played 0 (start bs ps) (replicate (length ps) None) []
-    begins = record {
-      calls = [];
-      leads = refl;
-      turns_are = refl;
-      fates_are = sym (fates_start p bs configured (length ps));
-      records_are = refl;
-      falling = omega (arith, start_falls bs ps few);
+  -- one more turn
+  module _ (bounded : Bounded p) {turns : ℕ} {x : Stage} {fs : List (Option Fallen)} {ds : List Period} (d : Played turns x fs ds) (c : Call) (made : turn p x ≡ Some c) where
+    abbrev y : Stage
+    y = after p c x
+
+    fit_after : Fit p y
+    fit_after = stays_fit p bounded x d.fit c made
+
+    grown : Grown ds (entries p bs (d.calls ++ c ∷ [])) (core x.receiver) (core y.receiver)
+    grown = grows p bs bounded d.calls c (core x.receiver) (core y.receiver) (d.ends ∙ d.fit.0)
+        (ap (λ (t : State). (call p c t).1) (sym d.fit.0) ∙ fit_after.0) ds d.records_are
+
+    held : length ds ≡ closed x
+    held = ap length d.records_are ∙ length-records (entries p bs d.calls) (closed x)
+
+    noted_fates : noted (decided c (call p c x.receiver).0) (closed y) fs ≡ fates (length ps) (entries p bs (d.calls ++ c ∷ []))
+    noted_fates =
+        sym (fates_grow p bs d.calls x.receiver d.ends c (length ps)
+        ∙ ap (λ k. noted (decided c (call p c x.receiver).0) k (fates (length ps) (entries p bs d.calls))) (ap closed_in fit_after.0)
+        ∙ ap (noted (decided c (call p c x.receiver).0) (closed y)) (sym d.fates_are))
+
+    noted_periods : noted_record 1000 (report (core y.receiver)) ds ≡ records (entries p bs (d.calls ++ c ∷ [])) (closed y)
+    noted_periods = ⊎_elim
+        (λ l. let a = grown.added l in
+        one_noted (report (core y.receiver)) ds 1000 a.0 a.1 (omega (arith, held, l)) (omega (arith, held, l, fit_after.1.closed)) ∙ a.2)
+        (λ l. no_room (report (core y.receiver)) ds 1000 (omega (arith, held, l)) ∙ grown.kept (omega (arith, l, grown.least)))
+        (cases_lt (closed x) (closed y))
+
+    pub goes_on : Played (turns + 1) y (noted (decided c (call p c x.receiver).0) (closed y) fs) (noted_record 1000 (report (core y.receiver)) ds)
+    goes_on = record {
+      calls = d.calls ++ c ∷ [];
+      leads = leads_push p (start bs ps) d.calls x c d.leads made;
+      ends = end_grow p bs d.calls x.receiver d.ends c;
+      fit = fit_after;
+      turns_are = omega (arith, d.turns_are, length-append d.calls (c ∷ []));
+      fates_are = noted_fates;
+      records_are = noted_periods;
+      falling = omega (arith, d.falling, falls p bounded x d.fit c made);
     }
-
-    module _ {turns : ℕ} {x : Stage} {fs : List (Option Fallen)} {ds : List Period} (d : Played turns x fs ds) where
-      pub fit : Fit p x
-      fit = leads_keep p (Fit p) (stays_fit p bounded) (start bs ps) d.calls x fits d.leads
-
-      -- one more turn
-      module _ (c : Call) (made : turn p x ≡ Some c) where
-        abbrev y : Stage
-        y = after p c x
-
-        fit_after : Fit p y
-        fit_after = stays_fit p bounded x fit c made
-
-        ended : end_of (idle bs) (entries p bs d.calls) ≡ x.receiver
-        ended = entries_end p bs configured ps d.calls x d.leads
-
-        grown : Grown ds (entries p bs (d.calls ++ c ∷ [])) (core x.receiver) (core y.receiver)
-        grown = grows p bs bounded d.calls c (core x.receiver) (core y.receiver) (ended ∙ fit.0)
-            (ap (λ (t : State). (call p c t).1) (sym fit.0) ∙ fit_after.0) ds d.records_are
-
-        held : length ds ≡ closed x
-        held = ap length d.records_are ∙ length-records (entries p bs d.calls) (closed x)
-
-        noted_fates : noted (decided c (call p c x.receiver).0) (closed y) fs ≡ fates (length ps) (entries p bs (d.calls ++ c ∷ []))
-        noted_fates =
-            sym (fates_grow p bs d.calls x.receiver ended c (length ps)
-            ∙ ap (λ k. noted (decided c (call p c x.receiver).0) k (fates (length ps) (entries p bs d.calls))) (ap closed_in fit_after.0)
-            ∙ ap (noted (decided c (call p c x.receiver).0) (closed y)) (sym d.fates_are))
-
-        noted_periods : noted_record 1000 (report (core y.receiver)) ds ≡ records (entries p bs (d.calls ++ c ∷ [])) (closed y)
-        noted_periods = ⊎_elim
-            (λ l. let a = grown.added l in
-            one_noted (report (core y.receiver)) ds 1000 a.0 a.1 (omega (arith, held, l)) (omega (arith, held, l, fit_after.1.closed)) ∙ a.2)
-            (λ l. no_room (report (core y.receiver)) ds 1000 (omega (arith, held, l)) ∙ grown.kept (omega (arith, l, grown.closes.0)))
-            (cases_lt (closed x) (closed y))
-
-        pub goes_on : Played (turns + 1) y (noted (decided c (call p c x.receiver).0) (closed y) fs) (noted_record 1000 (report (core y.receiver)) ds)
-        goes_on = record {
-          calls = d.calls ++ c ∷ [];
-          leads = leads_push p (start bs ps) d.calls x c d.leads made;
-          turns_are = omega (arith, d.turns_are, length-append d.calls (c ∷ []));
-          fates_are = noted_fates;
-          records_are = noted_periods;
-          falling = omega (arith, d.falling, falls p bounded x fit c made);
-        }

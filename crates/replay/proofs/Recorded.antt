@@ -9,48 +9,18 @@ use Rattle.machine.specs.declared.answers.Period.{Period}
 use Rattle.machine.specs.declared.answers.Report.{Report}
 use Rattle.machine.specs.declared.calls.Call.{Call}
 use Rattle.machine.specs.declared.calls.Call.TheVariants.{Configure, Tell}
-use Rattle.machine.specs.declared.calls.RawSettings.{RawSettings}
 use Rattle.machine.specs.declared.refusals.Refusal.{Refusal}
 use Rattle.machine.specs.Examples.{standard}
 use Rattle.machine.specs.Laws.{Bounded, closed_in, offered_by, offered_in, LastRecorded}
 use Rattle.machine.specs.Machine.{call, fresh}
-use Rattle.machine.specs.Moves.{is_over, next_period}
-use Rattle.machine.specs.State.{Clock, Core, State, idle, running, Batches}
+use Rattle.machine.specs.State.{Core, State, idle, running, Batches}
 use Rattle.machine.specs.Trace.{Entry, entry, trace, end_of}
-use Rattle.machine.proofs.Moved.{Move, signalled, begun, taken, worked, Happens, refused, asked_idle, configured, moved, happens}
 use Rattle.machine.proofs.Share.{true_records}
-use Rattle.machine.proofs.Unmoved.{gate_unmoved}
 use Rattle.replay.specs.Fates.{decided, noted, fates}
 use Rattle.replay.specs.Runs.{record_of, records, entries}
+use Rattle.replay.specs.Stages.{core}
 use Rattle.replay.proofs.Decided.{fates_push}
-
--- a call closes one period at most
-abbrev pub Closes : ℕ → ℕ → Type 0
-Closes k j = (k ≤ j) × (j ≤ k + 1)
-
-closes_none : (k : ℕ) → Closes k k
-closes_none k = (omega arith, omega arith)
-
-closes_over : (s : RawSettings) (k : Clock) → Closes k.closed (cond (is_over s k) (next_period s k) k).closed
-closes_over s k =
-    cond_both (is_over s k) (next_period s k) k (λ (l : Clock). Closes k.closed l.closed) (λ _. (omega arith, omega arith)) (λ _. closes_none k.closed)
-
-move_closes : (s : RawSettings) (p : Batches) (x y : Core) (c : Call) (a : Answer) → Move s p x c a y → Closes x.clock.closed y.clock.closed
-move_closes s p x _ _ _ (signalled i r h) = closes_over s _
-move_closes s p x _ _ _ (begun n l less h) = closes_over s _
-move_closes s p x _ _ _ (taken e w n less r) = closes_over s _
-move_closes s p x _ _ _ (worked i) = closes_over s _
-move_closes s p x _ _ _ _ = closes_none x.clock.closed
-
-happens_closes : (p : Batches) (t u : State) (c : Call) (r : Result Answer Refusal) → Happens p t c r u → Closes (closed_in t) (closed_in u)
-happens_closes p t _ _ _ refused = closes_none (closed_in t)
-happens_closes _ _ _ _ _ asked_idle = closes_none 0
-happens_closes _ _ _ _ _ (configured ranges empty share) = closes_none 0
-happens_closes p _ _ _ _ (moved {s = s} {x = x} {y = y} {c = c} {a = a} m _) =
-    subst (λ (k : Clock). Closes x.clock.closed k.closed) (sym (gate_unmoved s x y).clock) (move_closes s p x y c a m)
-
-pub call_closes : (p : Batches) (c : Call) (t : State) → Closes (closed_in t) (closed_in (call p c t).1)
-call_closes p c t = happens_closes p t (call p c t).1 c (call p c t).0 (happens p c t)
+use Rattle.replay.proofs.OneCall.{Passes, passes}
 
 -- one more entry, and where it ends
 trace_push : (p : Batches) (t : State) (cs : List Call) (c : Call) →
@@ -85,7 +55,7 @@ length-records es (suc k) = omega (arith, length-append (records es k) (record_o
 
 -- what becomes of the records rs where a call leads from x to y: es are then the entries
 pub record Grown (rs : List Period) (es : List Entry) (x y : Core) : Type 0 where
-  pub closes : Closes x.clock.closed y.clock.closed
+  pub least : x.clock.closed ≤ y.clock.closed
   pub kept : y.clock.closed ≡ x.clock.closed → rs ≡ records es y.clock.closed
   pub added : x.clock.closed < y.clock.closed → (d : Period) × (y.clock.last ≡ Some d) × (rs ++ d ∷ [] ≡ records es y.clock.closed)
 
@@ -144,15 +114,15 @@ module _ (p : Batches) (bs : List Bearer) where
         let es : List Entry = entries p bs (cs ++ c ∷ []) in
         let before : rs ≡ records es k =
         h ∙ sym (ap (λ ds. records ds k) (entries_push cs t e c) ∙ records_kept (entries p bs cs) (entry p t c) k (omega arith)) in
-        let closes : Closes k y.clock.closed = subst (λ u. Closes k (closed_in u)) f (call_closes p c t) in
+        let passed : Passes standard x.clock y.clock = subst (λ u. Passes standard x.clock (core u).clock) f (passes p standard x c) in
         let last = last_recorded (cs ++ c ∷ []) y (end_grow cs t e c ∙ f) in
         record {
-          closes = closes;
+          least = passed.least;
           kept = λ same. before ∙ ap (records es) (sym same);
           added = λ more.
-              let one : y.clock.closed ≡ suc k = omega arith in (
+              let one : y.clock.closed ≡ suc k = omega (arith, more, passed.most) in (
                 record_of es k,
-                last_record es k y.clock.closed y.clock.last last (omega arith),
+                last_record es k y.clock.closed y.clock.last last (omega (arith, one)),
                 ap (λ ds. ds ++ record_of es k ∷ []) before ∙ ap (records es) (sym one),
               );
         }

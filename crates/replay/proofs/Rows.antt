@@ -6,8 +6,7 @@ use Rattle.std.specs.List.{slice_get, flat_map}
 use Rattle.board.specs.Bearers.{Bearer}
 use Rattle.capture.specs.declared.packets.Captured.{Captured}
 use Rattle.machine.specs.declared.answers.Answer.{Answer}
-use Rattle.machine.specs.declared.answers.Answer.TheVariants.{Configured, Arrived}
-use Rattle.machine.specs.declared.answers.Arrival.{Arrival}
+use Rattle.machine.specs.declared.answers.Answer.TheVariants.{Configured}
 use Rattle.machine.specs.declared.answers.Counts.{Counts}
 use Rattle.machine.specs.declared.answers.Progress.{Progress}
 use Rattle.machine.specs.declared.answers.Progress.TheVariants.{Begun, Empty, Taken, Rescheduled, Completed}
@@ -30,9 +29,10 @@ use Rattle.replay.specs.declared.fates.Fallen.{Fallen}
 use Rattle.replay.specs.declared.fates.Fate.{Fate}
 use Rattle.replay.specs.declared.fates.Fate.TheVariants.{Delivered, BearerFull, QueueFull, Waiting, Pending}
 use Rattle.replay.specs.ByLedger.{on_the_way, Stands, RowsByLedger}
+use Rattle.replay.specs.Fit.{Fit}
 use Rattle.replay.specs.Fates.{fates, in_the_end, all_in_the_end}
 use Rattle.replay.specs.Runs.{Run, entries, outcomes}
-use Rattle.replay.specs.Stages.{Stage, start, closed, arrival, turn, after, Leads}
+use Rattle.replay.specs.Stages.{Stage, start, closed, after, Leads}
 use Rattle.replay.proofs.Decided.{settled, Decides, DecidesAt, decides, length-fates}
 use Rattle.replay.proofs.Led.{leads_end}
 use Rattle.replay.proofs.Numbered.{numbered_in, in_order}
@@ -125,12 +125,12 @@ noted_stands i numbered closed l one d e (Some f) t = fell f.fate t
     fell QueueFull h = h
     fell _ h = cc h
 
-module _ (p : Batches) (bs : List Bearer) (configured : call p (Configure standard) (idle bs) ≡ (Ok Configured, running standard (fresh bs))) where
+module _ (p : Batches) (bs : List Bearer) (ready : call p (Configure standard) (idle bs) ≡ (Ok Configured, running standard (fresh bs))) where
   set_up : (call p (Configure standard) (idle bs)).1 ≡ running standard (fresh bs)
-  set_up = ap (λ (w : Result Answer Refusal × State). w.1) configured
+  set_up = ap (λ (w : Result Answer Refusal × State). w.1) ready
 
   -- the trace of a replay ends with its last receiver
-  pub entries_end : (ps : List Captured) (cs : List Call) (y : Stage) → Leads p (start bs ps) cs y → end_of (idle bs) (entries p bs cs) ≡ y.receiver
+  entries_end : (ps : List Captured) (cs : List Call) (y : Stage) → Leads p (start bs ps) cs y → end_of (idle bs) (entries p bs cs) ≡ y.receiver
   entries_end ps cs y l = subst (λ t. end_of t (trace p t cs) ≡ y.receiver) (sym set_up) (leads_end p (start bs ps) cs y l)
 
   -- and nothing is discarded
@@ -145,7 +145,7 @@ module _ (p : Batches) (bs : List Bearer) (configured : call p (Configure standa
       let no : (n : ℕ) → c ≡ Discard n → ⊥ = λ n e. subst (λ d. Ruled x (Some d)) e (ruled x p c k.0) in
       turns_discard (after p c x) cs y k.1 (told (depths_of bs) c r l) (told_discards (depths_of bs) c r l no ∙ none)
 
-  pub none_discarded : (ps : List Captured) (cs : List Call) (y : Stage) → Leads p (start bs ps) cs y → (ledger bs (entries p bs cs)).columns.discarded ≡ []
+  none_discarded : (ps : List Captured) (cs : List Call) (y : Stage) → Leads p (start bs ps) cs y → (ledger bs (entries p bs cs)).columns.discarded ≡ []
   unfolding ledger
   none_discarded ps cs y k =
       let r : Result Answer Refusal = (call p (Configure standard) (idle bs)).0 in
@@ -183,12 +183,9 @@ module _ (p : Batches) (bs : List Bearer) (configured : call p (Configure standa
         subst (λ (g : Fallen). Stands g.fate i last) (ap (λ m. in_the_end given (closed r.stop) m w.noted) (sym e) ∙ w.gives)
         (noted_stands i given (closed r.stop) last one (none_discarded ps r.calls r.stop r.leads) given_next w.noted d)
 
-    -- it takes an invariant that turns keep, with which arrivals are accepted
-    module _ (I : Stage → Type 0) (starts : I (start bs ps)) (keeps : (x : Stage) → I x → (c : Call) → turn p x ≡ Some c → I (after p c x))
-        (arrives : (x : Stage) → I x → (q : Captured) → turn p x ≡ Some (arrival q) → (a : Arrival) × ((call p (arrival q) x.receiver).0 ≡ Ok (Arrived a))) where
-      pub by_ledger : RowsByLedger p bs ps r
-      by_ledger = record {
-        one_each = length-all given (closed r.stop) 0 (fates (length ps) es) ∙ length-fates (length ps) es;
-        numbered = in_order p ps I keeps arrives bs starts configured r.calls r.stop r.leads;
-        stands = rows_stand;
-      }
+    pub by_ledger : Fit p (start bs ps) → RowsByLedger p bs ps r
+    by_ledger starts = record {
+      one_each = length-all given (closed r.stop) 0 (fates (length ps) es) ∙ length-fates (length ps) es;
+      numbered = in_order p bounded ps bs starts ready r.calls r.stop r.leads;
+      stands = rows_stand;
+    }

@@ -7,6 +7,7 @@ use Rattle.machine.specs.Examples.{standard}
 use Rattle.machine.specs.State.{Core, running, Batches}
 use Rattle.machine.proofs.Kept.{Kept}
 use Rattle.replay.specs.Stages.{Task, Stage, core}
+use Rattle.replay.specs.Turns.{Playing, policy_of}
 
 -- a packet as it is read, for a board of n bearers: less than a second after the first timestamp
 pub record Readable (n first : ℕ) (q : Captured) : Type 0 where
@@ -27,3 +28,7 @@ pub record FitCore (p : Batches) (x : Core) (coming : List Captured) (first : �
 -- the receiver is configured, by the replay's settings
 abbrev pub Fit : Batches → Stage → Type 0
 Fit p x = (x.receiver ≡ running standard (core x.receiver)) × FitCore p (core x.receiver) x.coming x.first x.task
+
+-- and so is a replay under way
+abbrev pub Playable : {P : Type 0} → (P → ℕ → ℕ → ℕ) → ℕ → Playing P → Type 0
+Playable quotas greatest x = Fit (policy_of quotas greatest x) x.stage

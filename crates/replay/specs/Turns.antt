@@ -1,11 +1,14 @@
 -- What a turn comes to.
-use Rattle.std.specs.Prelude.{◌≡◌, Some, None, Option}
+use Rattle.std.specs.Prelude.{◌≡◌, ℕ, Some, None, Option, Result}
 use Rattle.std.specs.Option.{option_map, option_map_or}
+use Rattle.machine.specs.declared.answers.Answer.{Answer}
 use Rattle.machine.specs.declared.answers.Report.{Report}
 use Rattle.machine.specs.declared.calls.Call.{Call}
 use Rattle.machine.specs.declared.calls.Call.TheVariants.{Discard}
+use Rattle.machine.specs.declared.refusals.Refusal.{Refusal}
 use Rattle.machine.specs.Machine.{call}
-use Rattle.machine.specs.State.{Core, State, Batches}
+use Rattle.machine.specs.State.{Core, Batches}
+use Rattle.receiver.specs.Receivers.{Receiving, batches}
 use Rattle.replay.specs.declared.fates.Decision.{Decision}
 use Rattle.replay.specs.declared.stages.Task.{Task as HeldTask}
 use Rattle.replay.specs.declared.stages.Turn.{Turn}
@@ -26,15 +29,28 @@ pub record Playing (P : Type 0) : Type 0 where
 abbrev pub report : Core → Report
 report x = record { counts = x.counts; closed = x.clock.closed; last = x.clock.last }
 
--- a turn with a call leaves y, and decides what the call decides
-abbrev pub Makes : {P : Type 0} → Batches → Call → Playing P → Option Decision → Playing P → Type 0
-Makes p c x d y = (d ≡ decided c (call p c x.stage.receiver).0) × (y ≡ record x { stage = after p c x.stage })
+-- by the quotas and the greatest batch that policies have
+module _ {P : Type 0} (quotas : P → ℕ → ℕ → ℕ) (greatest : ℕ) where
+  abbrev pub policy_of : Playing P → Batches
+  policy_of x = batches (quotas x.policy) greatest
 
--- the stop leaves all as it was
-abbrev pub Turned : {P : Type 0} → Batches → Playing P → Turn → Playing P → Type 0
-Turned p x Stop y = (turn p x.stage ≡ None) × (y ≡ x)
-Turned p x (Made d) y = (c : Call) × (turn p x.stage ≡ Some c) × Makes p c x d y
+  -- what the receiver answers to a call
+  abbrev pub answer_to : Call → Playing P → Result Answer Refusal
+  answer_to c x = (call (policy_of x) c x.stage.receiver).0
 
--- the receiver after the stop: the application's packet, if it has one, is discarded, in no turn
-abbrev pub let_go : Batches → Stage → State
-let_go p x = option_map_or (λ (t : Task). (call p (Discard t.number) x.receiver).1) x.task x.receiver
+  -- a turn with a call leaves y, and decides what the call decides
+  abbrev pub Makes : Call → Playing P → Option Decision → Playing P → Type 0
+  Makes c x d y = (d ≡ decided c (answer_to c x)) × (y ≡ record x { stage = after (policy_of x) c x.stage })
+
+  -- the stop leaves all as it was
+  abbrev pub Turned : Playing P → Turn → Playing P → Type 0
+  Turned x Stop y = (turn (policy_of x) x.stage ≡ None) × (y ≡ x)
+  Turned x (Made d) y = (c : Call) × (turn (policy_of x) x.stage ≡ Some c) × Makes c x d y
+
+  -- the receiver after the stop: the application's packet, if it has one, is discarded, in no turn
+  abbrev pub let_go : Playing P → Receiving P
+  let_go x =
+      record {
+        policy = x.policy;
+        state = option_map_or (λ (t : Task). (call (policy_of x) (Discard t.number) x.stage.receiver).1) x.stage.task x.stage.receiver;
+      }

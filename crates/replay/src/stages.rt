@@ -1,14 +1,13 @@
 ghost use Rattle.std.specs.Prelude.{◌≡◌, ◌<◌, ◌-◌, ℕ, true, false, None, Some, Ok, IfSome, IfNone, IfOk, OnOk, OnErr, ◌≢◌, if◌then◌else◌, is_some, is_ok, min};
 ghost use Rattle.std.specs.Option.{option_map};
-ghost use Rattle.receiver.specs.Receivers.{batches, answer_to};
 ghost use Rattle.machine.specs.declared.answers.Answer.TheVariants.{Told};
 ghost use Rattle.machine.specs.declared.calls.Call.TheVariants.{Tell, Step, Finish, Fetch, Work};
 ghost use Rattle.machine.specs.State.{running};
 ghost use Rattle.machine.specs.Examples.{standard};
 ghost use Rattle.machine.specs.Machine.{any_left, call};
-ghost use Rattle.replay.specs.Fit.{Fit};
+ghost use Rattle.replay.specs.Fit.{Playable};
 ghost use Rattle.replay.specs.Stages.{closed, now, to_end, next, moment, span, is_due, is_through, is_over, turn, after, first_stamp, arrival, core};
-ghost use Rattle.replay.specs.Turns.{Makes, Turned, let_go, report};
+ghost use Rattle.replay.specs.Turns.{Makes, Turned, answer_to, let_go, report};
 
 use crate::fates::{Decision, Fate};
 use board::Board;
@@ -85,14 +84,14 @@ impl<'a, B: Board, P: Policy> Stage<'a, B, P> {
 
     /// What the receiver tells.
     pub(crate) fn tell(&self) -> Report
-        requires fit { Fit (batches (P.quotas self.now.policy) P.GREATEST) self.now.stage }
+        requires fit { Playable P.quotas P.GREATEST self.now }
         ensures value { result ≡ report (core self.now.stage.receiver) }
     {
         self.receiver.tell()
     }
 
     fn now(&self) -> u64
-        requires fit { Fit (batches (P.quotas self.now.policy) P.GREATEST) self.now.stage }
+        requires fit { Playable P.quotas P.GREATEST self.now }
         ensures value { result ≡ now self.now.stage }
     {
         u64::from(self.tell().closed) * PERIOD + self.receiver.elapsed()
@@ -100,7 +99,7 @@ impl<'a, B: Board, P: Policy> Stage<'a, B, P> {
 
     /// Cycles to the period's end.
     fn to_end(&self) -> u64
-        requires fit { Fit (batches (P.quotas self.now.policy) P.GREATEST) self.now.stage }
+        requires fit { Playable P.quotas P.GREATEST self.now }
         ensures value { result ≡ to_end self.now.stage }
     {
         PERIOD - self.receiver.elapsed()
@@ -108,7 +107,7 @@ impl<'a, B: Board, P: Policy> Stage<'a, B, P> {
 
     /// The moment of the next packet, if one is still to arrive.
     fn next_moment(&self) -> Option<u64>
-        requires fit { Fit (batches (P.quotas self.now.policy) P.GREATEST) self.now.stage }
+        requires fit { Playable P.quotas P.GREATEST self.now }
         ensures value { result ≡ option_map (moment self.now.stage) (next self.now.stage) }
     {
         let next = self.coming.first()?;
@@ -116,7 +115,7 @@ impl<'a, B: Board, P: Policy> Stage<'a, B, P> {
     }
 
     fn is_due(&self) -> bool
-        requires fit { Fit (batches (P.quotas self.now.policy) P.GREATEST) self.now.stage }
+        requires fit { Playable P.quotas P.GREATEST self.now }
         ensures value { result ≡ is_due self.now.stage }
     {
         match self.next_moment() {
@@ -127,7 +126,7 @@ impl<'a, B: Board, P: Policy> Stage<'a, B, P> {
 
     /// Cycles to the period's end or to the next packet's moment, whichever comes first.
     fn span(&self) -> u64
-        requires fit { Fit (batches (P.quotas self.now.policy) P.GREATEST) self.now.stage }
+        requires fit { Playable P.quotas P.GREATEST self.now }
         ensures value { result ≡ span self.now.stage }
     {
         let to_end = self.to_end();
@@ -146,7 +145,7 @@ impl<'a, B: Board, P: Policy> Stage<'a, B, P> {
 
     /// Whether no packet is still to arrive, and each that arrived is gone.
     fn is_over(&self) -> bool
-        requires fit { Fit (batches (P.quotas self.now.policy) P.GREATEST) self.now.stage }
+        requires fit { Playable P.quotas P.GREATEST self.now }
         ensures value { result ≡ is_over self.now.stage }
     {
         let counts = self.tell().counts;
@@ -157,7 +156,7 @@ impl<'a, B: Board, P: Policy> Stage<'a, B, P> {
     /// The next packet arrives.
     fn arrive(&mut self) -> Option<Decision>
         requires coming { next self.old.stage ≢ None }
-        ensures after { IfSome (next self.old.stage) (λ q. Makes (batches (P.quotas self.old.policy) P.GREATEST) (arrival q) self.old result self.new) }
+        ensures after { IfSome (next self.old.stage) (λ q. Makes P.quotas P.GREATEST (arrival q) self.old result self.new) }
     {
         let (packet, rest) = self.coming.split_first()?;
         self.coming = rest;
@@ -170,8 +169,8 @@ impl<'a, B: Board, P: Policy> Stage<'a, B, P> {
 
     /// The application is through with its packet.
     fn finish(&mut self) -> Option<Decision>
-        requires fit { Fit (batches (P.quotas self.old.policy) P.GREATEST) self.old.stage }
-        ensures after { IfSome self.old.stage.task (λ t. Makes (batches (P.quotas self.old.policy) P.GREATEST) (Finish t.number) self.old result self.new) }
+        requires fit { Playable P.quotas P.GREATEST self.old }
+        ensures after { IfSome self.old.stage.task (λ t. Makes P.quotas P.GREATEST (Finish t.number) self.old result self.new) }
     {
         let Task { receipt, to_go: _ } = self.task.take()?;
         let number = receipt.number();
@@ -185,8 +184,8 @@ impl<'a, B: Board, P: Policy> Stage<'a, B, P> {
     /// Goes on with the polling, unless that is refused.
     #[tactic(auto, using(crate::proofs::Refused::stays))]
     fn step(&mut self) -> Result<Option<Decision>, Refusal>
-        ensures value { is_ok result ≡ is_ok (call (batches (P.quotas self.old.policy) P.GREATEST) Step self.old.stage.receiver).0 }
-        ensures after { IfOk result (λ d. Makes (batches (P.quotas self.old.policy) P.GREATEST) Step self.old d self.new) }
+        ensures value { is_ok result ≡ is_ok (answer_to P.quotas P.GREATEST Step self.old) }
+        ensures after { IfOk result (λ d. Makes P.quotas P.GREATEST Step self.old d self.new) }
         ensures same { OnErr result (self.new ≡ self.old) }
     {
         let progress = self.receiver.step()?;
@@ -196,10 +195,10 @@ impl<'a, B: Board, P: Policy> Stage<'a, B, P> {
     /// The application gets the queue's first packet, unless that is refused.
     #[tactic(auto, using(crate::proofs::Refused::stays))]
     fn fetch(&mut self) -> Result<(), Refusal>
-        requires fit { Fit (batches (P.quotas self.old.policy) P.GREATEST) self.old.stage }
+        requires fit { Playable P.quotas P.GREATEST self.old }
         requires none { self.old.stage.task ≡ None }
         ensures value { is_ok result ≡ any_left (core self.old.stage.receiver).queue }
-        ensures after { OnOk result (Makes (batches (P.quotas self.old.policy) P.GREATEST) Fetch self.old None self.new) }
+        ensures after { OnOk result (Makes P.quotas P.GREATEST Fetch self.old None self.new) }
         ensures same { OnErr result (self.new ≡ self.old) }
     {
         let (_packet, receipt) = self.receiver.fetch()?;
@@ -212,9 +211,9 @@ impl<'a, B: Board, P: Policy> Stage<'a, B, P> {
 
     /// The application works on its packet, if it has one, until something else is to be done.
     fn work_on(&mut self) -> bool
-        requires fit { Fit (batches (P.quotas self.old.policy) P.GREATEST) self.old.stage }
+        requires fit { Playable P.quotas P.GREATEST self.old }
         ensures value { result ≡ is_some self.old.stage.task }
-        ensures after { IfSome self.old.stage.task (λ t. Makes (batches (P.quotas self.old.policy) P.GREATEST) (Work (min t.to_go (span self.old.stage))) self.old None self.new) }
+        ensures after { IfSome self.old.stage.task (λ t. Makes P.quotas P.GREATEST (Work (min t.to_go (span self.old.stage))) self.old None self.new) }
         ensures same { result ≡ false → self.new ≡ self.old }
     {
         let span = self.span();
@@ -229,9 +228,9 @@ impl<'a, B: Board, P: Policy> Stage<'a, B, P> {
 
     /// Time passes without a packet for the application, until something else is to be done.
     fn wait(&mut self)
-        requires fit { Fit (batches (P.quotas self.old.policy) P.GREATEST) self.old.stage }
+        requires fit { Playable P.quotas P.GREATEST self.old }
         requires none { self.old.stage.task ≡ None }
-        ensures after { Makes (batches (P.quotas self.old.policy) P.GREATEST) (Work (span self.old.stage)) self.old None self.new }
+        ensures after { Makes P.quotas P.GREATEST (Work (span self.old.stage)) self.old None self.new }
     {
         let span = self.span();
         let _ = self.receiver.work(span);
@@ -239,12 +238,12 @@ impl<'a, B: Board, P: Policy> Stage<'a, B, P> {
 
     /// A turn in which nothing is due, and no step can be made.
     fn pass(&mut self) -> Turn
-        requires fit { Fit (batches (P.quotas self.old.policy) P.GREATEST) self.old.stage }
+        requires fit { Playable P.quotas P.GREATEST self.old }
         requires open { closed self.old.stage < 1000 }
         requires due { is_due self.old.stage ≡ false }
         requires through { is_through self.old.stage ≡ false }
-        requires step { is_ok (call (batches (P.quotas self.old.policy) P.GREATEST) Step self.old.stage.receiver).0 ≡ false }
-        ensures value { Turned (batches (P.quotas self.old.policy) P.GREATEST) self.old result self.new }
+        requires step { is_ok (answer_to P.quotas P.GREATEST Step self.old) ≡ false }
+        ensures value { Turned P.quotas P.GREATEST self.old result self.new }
     {
         if self.work_on() {
             return Turn::Made(None);
@@ -262,8 +261,8 @@ impl<'a, B: Board, P: Policy> Stage<'a, B, P> {
     /// Does what is first to be done.
     #[tactic(auto, using(crate::proofs::Turning::turning))]
     pub(crate) fn turn(&mut self) -> Turn
-        requires fit { Fit (batches (P.quotas self.old.policy) P.GREATEST) self.old.stage }
-        ensures value { Turned (batches (P.quotas self.old.policy) P.GREATEST) self.old result self.new }
+        requires fit { Playable P.quotas P.GREATEST self.old }
+        ensures value { Turned P.quotas P.GREATEST self.old result self.new }
     {
         if self.tell().closed as usize >= MOST_PERIODS {
             return Turn::Stop;
@@ -282,8 +281,8 @@ impl<'a, B: Board, P: Policy> Stage<'a, B, P> {
 
     /// Lets the receiver go. The application's packet, if it has one, is discarded, in no turn.
     pub(crate) fn end(self) -> Receiver<B, P>
-        requires fit { Fit (batches (P.quotas self.policy) P.GREATEST) self.stage }
-        ensures value { result ≡ record { policy = self.entry.policy; state = let_go (batches (P.quotas self.entry.policy) P.GREATEST) self.entry.stage } }
+        requires fit { Playable P.quotas P.GREATEST self }
+        ensures value { result ≡ let_go P.quotas P.GREATEST self.entry }
     {
         let Stage {
             mut receiver,

@@ -1,9 +1,7 @@
 use Rattle.std.proofs.Common.{ap, rules, ◌∙◌}
 use Rattle.machine.specs.declared.answers.Answer.TheVariants.{Discarded}
 use Rattle.machine.specs.declared.calls.Call.TheVariants.{Discard}
-use Rattle.machine.specs.Machine.{call}
-use Rattle.receiver.specs.Receivers.{batches}
-use Rattle.replay.specs.Turns.{Playing}
+use Rattle.replay.specs.Turns.{Playing, answer_to, policy_of}
 use Rattle.replay.proofs.Fits.{task_discarded}
 use Rattle.replay.proofs.Refused.{passes}
 use Rattle.replay.proofs.stages.Stage.end.Goals as goal
@@ -12,8 +10,8 @@ pub unwrap-requires : goal.unwrap-requires
 unwrap-requires g c =
     let x = c.args.self in
     let n = c.in-Some.field-0.receipt.number in
-    let done = task_discarded (batches (g.P.Policy.quotas x.policy) g.P.Policy.GREATEST) x.stage c.requires.fit
+    let done = task_discarded (policy_of g.P.Policy.quotas g.P.Policy.GREATEST x) x.stage c.requires.fit
     (record { number = n; to_go = c.in-Some.field-0.to_go }) (search rules) in
     passes _ _ c.discard.result Discarded
-    (c.discard.ensures.value ∙ ap (λ (v : Playing _). (call (batches (g.P.Policy.quotas v.policy) g.P.Policy.GREATEST) (Discard n) v.stage.receiver).0) c.self.view_is
+    (c.discard.ensures.value ∙ ap (λ (v : Playing _). answer_to g.P.Policy.quotas g.P.Policy.GREATEST (Discard n) v) c.self.view_is
     ∙ done)

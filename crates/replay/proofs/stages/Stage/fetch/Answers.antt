@@ -1,9 +1,7 @@
 use Rattle.std.proofs.Common.{ap, sym, ◌∙◌, is_ok}
 use Rattle.std.proofs.lemmas.Result.{err_from_is_err_and}
 use Rattle.machine.specs.declared.calls.Call.TheVariants.{Fetch}
-use Rattle.machine.specs.Machine.{call}
-use Rattle.receiver.specs.Receivers.{batches}
-use Rattle.replay.specs.Turns.{Playing}
+use Rattle.replay.specs.Turns.{Playing, answer_to, policy_of}
 use Rattle.replay.proofs.Fits.{fetched_if_left}
 use Rattle.replay.proofs.Refused.{as_answered}
 use Rattle.replay.proofs.stages.Stage.fetch.Goals as goal
@@ -13,12 +11,12 @@ returns-in_err-_packet-clause-value g c =
     let x = c.args.self.now in
     let e = err_from_is_err_and c.from_residual.result c.from_residual.ensures.1 in
     ap is_ok e.1 ∙ sym (ap is_ok c.in_err-_packet.was) ∙ as_answered _ _ c.fetch.result _ c.fetch.ensures.value
-    ∙ ap (λ (v : Playing _). is_ok (call (batches (g.P.Policy.quotas v.policy) g.P.Policy.GREATEST) Fetch v.stage.receiver).0) c.self.view_is
-    ∙ sym (fetched_if_left (batches (g.P.Policy.quotas x.policy) g.P.Policy.GREATEST) x.stage c.requires.fit c.requires.none)
+    ∙ ap (λ (v : Playing _). is_ok (answer_to g.P.Policy.quotas g.P.Policy.GREATEST Fetch v)) c.self.view_is
+    ∙ sym (fetched_if_left (policy_of g.P.Policy.quotas g.P.Policy.GREATEST x) x.stage c.requires.fit c.requires.none)
 
 pub returns-clause-value : goal.returns-clause-value
 returns-clause-value g c =
     let x = c.args.self.now in
     sym (ap is_ok c.in_ok-_packet.was) ∙ as_answered _ _ c.fetch.result _ c.fetch.ensures.value
-    ∙ ap (λ (v : Playing _). is_ok (call (batches (g.P.Policy.quotas v.policy) g.P.Policy.GREATEST) Fetch v.stage.receiver).0) c.self.view_is
-    ∙ sym (fetched_if_left (batches (g.P.Policy.quotas x.policy) g.P.Policy.GREATEST) x.stage c.requires.fit c.requires.none)
+    ∙ ap (λ (v : Playing _). is_ok (answer_to g.P.Policy.quotas g.P.Policy.GREATEST Fetch v)) c.self.view_is
+    ∙ sym (fetched_if_left (policy_of g.P.Policy.quotas g.P.Policy.GREATEST x) x.stage c.requires.fit c.requires.none)

@@ -1,9 +1,7 @@
 use Rattle.std.proofs.Common.{ap, rules, ◌∙◌}
 use Rattle.machine.specs.declared.answers.Answer.TheVariants.{Finished}
 use Rattle.machine.specs.declared.calls.Call.TheVariants.{Finish}
-use Rattle.machine.specs.Machine.{call}
-use Rattle.receiver.specs.Receivers.{batches}
-use Rattle.replay.specs.Turns.{Playing}
+use Rattle.replay.specs.Turns.{Playing, answer_to, policy_of}
 use Rattle.replay.proofs.Fits.{task_finished}
 use Rattle.replay.proofs.Refused.{passes}
 use Rattle.replay.proofs.stages.Stage.finish.Goals as goal
@@ -12,8 +10,8 @@ pub unwrap-requires : goal.unwrap-requires
 unwrap-requires g c =
     let x = c.args.self.now in
     let n = c.in_ok-receipt.field-0.receipt.number in
-    let done = task_finished (batches (g.P.Policy.quotas x.policy) g.P.Policy.GREATEST) x.stage c.requires.fit
+    let done = task_finished (policy_of g.P.Policy.quotas g.P.Policy.GREATEST x) x.stage c.requires.fit
     (record { number = n; to_go = c.in_ok-receipt.field-0.to_go }) (search rules) in
     passes _ _ c.finish.result Finished
-    (c.finish.ensures.value ∙ ap (λ (v : Playing _). (call (batches (g.P.Policy.quotas v.policy) g.P.Policy.GREATEST) (Finish n) v.stage.receiver).0) c.self.view_is
+    (c.finish.ensures.value ∙ ap (λ (v : Playing _). answer_to g.P.Policy.quotas g.P.Policy.GREATEST (Finish n) v) c.self.view_is
     ∙ done)
