@@ -28,6 +28,11 @@ pub data Applies (p : Batches) (x : Stage) : Option Call → Type 0 where
   over : Past p x → x.task ≡ None → any_left (core x.receiver).queue ≡ false → is_over x ≡ true → Applies p x None
   idles : Past p x → x.task ≡ None → any_left (core x.receiver).queue ≡ false → is_over x ≡ false → Applies p x (Some (Work (span x)))
 
+-- a task that is not there
+pub no_task : (o : Option Task) → is_some o ≡ false → o ≡ None
+no_task None h = refl
+no_task (Some t) h = cc h
+
 module _ (p : Batches) (x : Stage) where
   arrive_case : closed x < 1000 → (l : List Captured) → x.coming ≡ l → option_map_or (λ q. leb (moment x q) (now x)) (slice_get l 0) false ≡ true →
       Applies p x (option_map arrival (slice_get l 0))
@@ -45,10 +50,6 @@ module _ (p : Batches) (x : Stage) where
     where
       to_go_by : Option Task → Bool
       to_go_by o = option_map_or (λ (t : Task). eqb t.to_go 0) o false
-
-  no_task : (o : Option Task) → is_some o ≡ false → o ≡ None
-  no_task None h = refl
-  no_task (Some t) h = cc h
 
   pub applies : Applies p x (turn p x)
   unfolding turn

@@ -44,16 +44,16 @@ abbrev given : Core → Captured → Arrival
 given x q = record { number = x.counts.numbered; accepted = has_room (bearer_of x.bearers q.bearer) }
 
 -- a list of which some is left has a front
-pub record Front {A : Type 0} (xs : List A) : Type 0 where
+record Front {A : Type 0} (xs : List A) : Type 0 where
   pub head : A
   pub rest : List A
   pub same : xs ≡ head ∷ rest
 
-pub front : {A : Type 0} (xs : List A) → any_left xs ≡ true → Front xs
+front : {A : Type 0} (xs : List A) → any_left xs ≡ true → Front xs
 front [] h = cc h
 front (x ∷ xs) h = record { head = x; rest = xs; same = refl }
 
-pub accepted : (r : Result Answer Refusal) → is_ok r ≡ true → (a : Answer) × (r ≡ Ok a)
+accepted : (r : Result Answer Refusal) → is_ok r ≡ true → (a : Answer) × (r ≡ Ok a)
 accepted (Ok a) h = (a, refl)
 accepted (Err q) h = cc h
 
@@ -110,7 +110,7 @@ pub record Goes (p : Batches) (x : Stage) (c : Call) : Type 0 where
   pub numbered : (core (call p c x.receiver).1).counts.numbered ≡ numbered_by c (core x.receiver).counts.numbered
   pub fit : Fit p (after p c x)
 
-abbrev pub GoesOn : Batches → Stage → Option Call → Type 0
+abbrev GoesOn : Batches → Stage → Option Call → Type 0
 GoesOn p x None = Unit {0}
 GoesOn p x (Some c) = Goes p x c
 

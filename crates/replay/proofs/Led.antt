@@ -19,16 +19,16 @@ module _ (p : Batches) where
   -- what turns keep
   module _ (I : Stage → Type 0) (keep : (x : Stage) → I x → (c : Call) → turn p x ≡ Some c → I (after p c x)) where
     -- an entry of the trace is what a turn's call comes to, made at a stage of which I holds
-    pub record Turned (e : Entry) : Type 0 where
+    pub record ByTurn (e : Entry) : Type 0 where
       pub stage : Stage
       pub held : I stage
       pub is_turn : turn p stage ≡ Some e.asked
       pub is_entry : e ≡ entry p stage.receiver e.asked
 
     pub each_turn : (x : Stage) (cs : List Call) (y : Stage) → I x → Leads p x cs y →
-        (before rest : List Entry) (e : Entry) → trace p x.receiver cs ≡ before ++ e ∷ rest → Turned e
+        (before rest : List Entry) (e : Entry) → trace p x.receiver cs ≡ before ++ e ∷ rest → ByTurn e
     each_turn x [] y i l [] rest e h = cc h
     each_turn x [] y i l (d ∷ before) rest e h = cc h
     each_turn x (c ∷ cs) y i l [] rest e h =
-        subst Turned (cc h) (record { stage = x; held = i; is_turn = l.0; is_entry = refl })
+        subst ByTurn (cc h) (record { stage = x; held = i; is_turn = l.0; is_entry = refl })
     each_turn x (c ∷ cs) y i l (d ∷ before) rest e h = each_turn (after p c x) cs y (keep x i c l.0) l.1 before rest e (cc h)

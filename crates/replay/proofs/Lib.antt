@@ -1,10 +1,10 @@
 pub mod Applies
 pub mod Decided
+pub mod EveryRun
 pub mod Falls
 pub mod Fits
 pub mod Going
 pub mod Gone
-pub mod Kept
 pub mod Laws
 pub mod Led
 pub mod Lent

@@ -21,7 +21,7 @@ use Rattle.replay.specs.Runs.{entries}
 use Rattle.replay.specs.Fit.{Fit}
 use Rattle.replay.proofs.Fits.{turn_goes, here}
 use Rattle.replay.proofs.OneCall.{numbered_by, arrives}
-use Rattle.replay.proofs.Led.{Turned, each_turn}
+use Rattle.replay.proofs.Led.{ByTurn, each_turn}
 use Rattle.replay.proofs.Ruled.{Ruled, ruled}
 
 abbrev pub numbered_in : State → ℕ
@@ -46,7 +46,7 @@ module _ (p : Batches) (bounded : Bounded p) (ps : List Captured) where
   order_kept : (x : Stage) → InOrder x → (c : Call) → turn p x ≡ Some c → InOrder (after p c x)
   order_kept x o c t = let g = turn_goes p bounded x o.0 c t in (g.fit, coming_kept x c o.1 g.numbered)
 
-  turned_numbered : (e : Entry) (a : Arrival) → Turned p InOrder order_kept e → e.answered ≡ Ok (Arrived a) → option_map arrival (slice_get ps a.number) ≡ Some e.asked
+  turned_numbered : (e : Entry) (a : Arrival) → ByTurn p InOrder order_kept e → e.answered ≡ Ok (Arrived a) → option_map arrival (slice_get ps a.number) ≡ Some e.asked
   turned_numbered e a t h =
       let x : Stage = t.stage in
       let r = arrives p standard (core x.receiver) e.asked a

@@ -76,7 +76,7 @@ last_record es k closed (Some d) r e =
 module _ (p : Batches) (bs : List Bearer) where
   -- after cs the receiver is t
   module _ (cs : List Call) (t : State) (e : end_of (idle bs) (entries p bs cs) ≡ t) (c : Call) where
-    pub entries_push : entries p bs (cs ++ c ∷ []) ≡ entries p bs cs ++ entry p t c ∷ []
+    entries_push : entries p bs (cs ++ c ∷ []) ≡ entries p bs cs ++ entry p t c ∷ []
     entries_push = trace_push p (idle bs) (Configure standard ∷ cs) c ∙ ap (λ u. entries p bs cs ++ entry p u c ∷ []) e
 
     pub end_grow : end_of (idle bs) (entries p bs (cs ++ c ∷ [])) ≡ (call p c t).1
@@ -94,7 +94,7 @@ module _ (p : Batches) (bs : List Bearer) where
 
   module _ (bounded : Bounded p) where
     -- what the receiver has of the last closed period: what tell would answer
-    pub last_recorded : (cs : List Call) (x : Core) → end_of (idle bs) (entries p bs cs) ≡ running standard x →
+    last_recorded : (cs : List Call) (x : Core) → end_of (idle bs) (entries p bs cs) ≡ running standard x →
         LastRecorded standard.period (λ k. offered_in k (entries p bs cs)) x.clock.closed x.clock.last
     unfolding call
     last_recorded cs x e =

@@ -1,5 +1,5 @@
 -- Calls that are refused, and calls that are not.
-use Rattle.std.proofs.Common.{◌≡◌, true, false, Ok, Err, Result, IsOk, OnOk, OnErr, ap, is_ok, refl}
+use Rattle.std.proofs.Common.{◌≡◌, true, false, Ok, Err, Result, OnOk, OnErr, ap, is_ok}
 use Rattle.std.specs.Result.{result_map_both}
 use Rattle.machine.specs.declared.calls.Call.{Call}
 use Rattle.machine.specs.declared.refusals.Refusal.{Refusal}
@@ -12,12 +12,7 @@ use Rattle.machine.proofs.Runs.{refused_same}
 pub stays : (p : Batches) (c : Call) (t : State) (r : Refusal) → (call p c t).0 ≡ Err r → (call p c t).1 ≡ t
 stays p c t r h = refused_same p t (call p c t).1 c (call p c t).0 r (happens p c t) h
 
--- what answers as an accepted call was not refused
-pub passes : {R E S F : Type 0} (f : R → S) (g : E → F) (r : Result R E) (y : S) → result_map_both f g r ≡ Ok y → IsOk r
-passes f g (Ok a) y h = refl
-passes f g (Err e) y h = cc
-
--- and what answers as a call, is accepted where the call is
+-- what answers as a call, is accepted where the call is
 pub as_answered : {R E S F : Type 0} (f : R → S) (g : E → F) (r : Result R E) (a : Result S F) → result_map_both f g r ≡ a → is_ok r ≡ is_ok a
 as_answered f g (Ok x) a h = ap is_ok h
 as_answered f g (Err e) a h = ap is_ok h

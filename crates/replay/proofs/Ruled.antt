@@ -34,7 +34,7 @@ module _ (x : Stage) where
   ruled_work f None = tt
   ruled_work f (Some t) = tt
 
-  pub turn_ruled : (p : Batches) → Ruled x (turn p x)
+  turn_ruled : (p : Batches) → Ruled x (turn p x)
   unfolding turn
   turn_ruled p =
       first_is (Ruled x) tt (rules p x)

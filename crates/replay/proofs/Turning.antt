@@ -101,9 +101,4 @@ module _ {P : Type 0} (quotas : P → ℕ → ℕ → ℕ) (greatest : ℕ) (x :
               pub waited : (y : Playing P) → is_over x.stage ≡ false → Makes quotas greatest (Work (span x.stage)) x None y → Turned quotas greatest x (Made None) y
               waited y e m = (Work (span x.stage), waits p x.stage going early none_through refused idle empty e, m)
 
--- a task that is not there
-pub no_task : (o : Option Task) → is_some o ≡ false → o ≡ None
-no_task None e = refl
-no_task (Some t) e = cc
-
 pub ruleset turning = (stops_ended, arrived, finished, stepped)

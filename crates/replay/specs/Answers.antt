@@ -85,23 +85,21 @@ abbrev pub EveryRun : Meaning → ((ps : List Captured) → StandardRun ps → T
 EveryRun (Ok ps) P = (r : StandardRun ps) → P ps r
 EveryRun (Err f) P = Unit {0}
 
--- what a replay answers and leaves in the memory that is lent for its tables
-pub record Replays (m : Meaning) (packets periods : List ℕ) (answered : Replayed) (packets_left periods_left : List ℕ) : Type 0 where
+-- what is answered to a capture that is read, where no want of memory of the host's comes between
+pub record Answered (m : Meaning) (packets periods : List ℕ) (r : Result Replayed Refusal) : Type 0 where
   pub captured : List Captured
   pub means : m ≡ Ok captured
   pub run : StandardRun captured
-  pub answer_is : answer captured run packets periods ≡ Ok answered
-  pub packets_written : packets_left ≡ left packets 0 (packets_text captured run)
-  pub periods_written : periods_left ≡ left periods 0 (periods_text captured run)
+  pub answer_is : answer captured run packets periods ≡ r
 
--- how it is refused where no want of memory of the host's comes between
-pub record Small (m : Meaning) (packets periods : List ℕ) (need : ℕ) : Type 0 where
-  pub captured : List Captured
-  pub means : m ≡ Ok captured
-  pub run : StandardRun captured
-  pub answer_is : answer captured run packets periods ≡ Err (TooSmall need)
+-- a replay answers, and leaves its tables in the memory that is lent for them
+pub record Replays (m : Meaning) (packets periods : List ℕ) (done : Replayed) (packets_left periods_left : List ℕ) : Type 0 where
+  pub answered : Answered m packets periods (Ok done)
+  pub packets_written : packets_left ≡ left packets 0 (packets_text answered.captured answered.run)
+  pub periods_written : periods_left ≡ left periods 0 (periods_text answered.captured answered.run)
 
+-- or it is refused
 abbrev pub Declines : Meaning → List ℕ → List ℕ → ReplayError → Type 0
 Declines m packets periods (Refused (Unreadable f)) = m ≡ Err f
-Declines m packets periods (Refused (TooSmall need)) = Small m packets periods need
+Declines m packets periods (Refused (TooSmall need)) = Answered m packets periods (Err (TooSmall need))
 Declines m packets periods Memory = Unit {0}

@@ -1,5 +1,5 @@
 use Rattle.std.proofs.Common.{rules}
-use Rattle.replay.proofs.Kept.{laws, rows_by_ledger}
+use Rattle.replay.proofs.EveryRun.{laws, rows_by_ledger}
 use Rattle.replay.proofs.Lent.{first_small, second_small, both_written}
 use Rattle.replay.proofs.entry.replay.Goals as goal
 

@@ -5,7 +5,8 @@ use Rattle.replay.specs.Fit.{Playable}
 use Rattle.replay.specs.Stages.{core, is_over, span}
 use Rattle.replay.specs.Turns.{Makes, Playing}
 use Rattle.replay.proofs.Refused.{if_ok, if_err}
-use Rattle.replay.proofs.Turning.{worked, fetched, stops_over, waited, no_task}
+use Rattle.replay.proofs.Applies.{no_task}
+use Rattle.replay.proofs.Turning.{worked, fetched, stops_over, waited}
 use Rattle.replay.proofs.stages.Stage.pass.Goals as goal
 
 pub returns-then-work_on : goal.returns-then-work_on

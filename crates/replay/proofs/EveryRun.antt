@@ -1,4 +1,4 @@
--- What every run of a capture that is read keeps.
+-- What holds of every run of a capture that is read: its rows are by its ledger, and the laws of load hold.
 use Rattle.std.proofs.Common.{◌≡◌, ℕ, List, Ok, Err, refl, ◌∷◌, arith}
 use Rattle.capture.specs.declared.packets.Captured.{Captured}
 use Rattle.capture.specs.Meaning.{Meaning}
