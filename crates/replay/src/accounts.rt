@@ -19,9 +19,8 @@ pub(crate) fn note(fates: &mut Vec<Option<Fallen>>, decision: Option<Decision>, 
     let Some(Decision { number, fate }) = decision else {
         return;
     };
-    let number = number as usize;
-    if number < fates.len() {
-        fates[number] = Some(Fallen { fate, period });
+    if let Some(noted) = fates.get_mut(number as usize) {
+        *noted = Some(Fallen { fate, period });
     }
 }
 

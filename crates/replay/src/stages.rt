@@ -143,7 +143,7 @@ impl<'a, B: Board, P: Policy> Stage<'a, B, P> {
         self.task.as_ref().is_some_and(|task| task.to_go == 0)
     }
 
-    /// Whether no packet is still to arrive, and each that arrived is gone.
+    /// Whether no packet is still to arrive and none is in a bearer, the queue or out: as many are gone as were numbered.
     fn is_over(&self) -> bool
         requires fit { Playable P.quotas P.GREATEST self.now }
         ensures value { result ≡ is_over self.now.stage }
@@ -209,7 +209,7 @@ impl<'a, B: Board, P: Policy> Stage<'a, B, P> {
         Ok(())
     }
 
-    /// The application works on its packet, if it has one, until something else is to be done.
+    /// The application works on its packet until something else is to be done. Answers whether it has one.
     fn work_on(&mut self) -> bool
         requires fit { Playable P.quotas P.GREATEST self.old }
         ensures value { result ≡ is_some self.old.stage.task }
@@ -222,6 +222,7 @@ impl<'a, B: Board, P: Policy> Stage<'a, B, P> {
         };
         let cycles = task.to_go.min(span);
         task.to_go -= cycles;
+        // Not refused: there are some cycles, and they end with the period.
         let _ = self.receiver.work(cycles);
         true
     }
@@ -233,6 +234,7 @@ impl<'a, B: Board, P: Policy> Stage<'a, B, P> {
         ensures after { Makes P.quotas P.GREATEST (Work (span self.old.stage)) self.old None self.new }
     {
         let span = self.span();
+        // Not refused, as above.
         let _ = self.receiver.work(span);
     }
 

@@ -153,6 +153,45 @@ fn one_packet(rt: HostRuntime) -> Result<(), Fail> {
     Ok(())
 }
 
+/// A packet whose timestamp is before the first's arrives at once: the application does not work until both were polled.
+#[test]
+fn earlier_than_the_first(rt: HostRuntime) -> Result<(), Fail> {
+    let file = savefile(rt.alloc(), ByteOrder::Big, &[(0, 20, 1_000), (1, 20, 10)])?;
+    let tables = tables(rt.alloc(), &file)?;
+    assert_eq!(rt; tables.figures, delivered(2, 16, 0));
+    Ok(())
+}
+
+/// The last period is closed by the begin of a grant: its packet waits, and the next one, four cycles later, never arrives.
+#[test]
+fn stopped_at_1000_periods(rt: HostRuntime) -> Result<(), Fail> {
+    let lines = [(0, 20, 0), (0, 20, 999_998), (1, 20, 999_999)];
+    let file = savefile(rt.alloc(), ByteOrder::Little, &lines)?;
+    let tables = tables(rt.alloc(), &file)?;
+    let fates = FateCounts {
+        delivered: 1,
+        bearer_full: 0,
+        queue_full: 0,
+        waiting: 1,
+        pending: 1,
+    };
+    let expected = Figures {
+        packets: 3,
+        turns: 1_010,
+        periods: 1_000,
+        fates,
+    };
+    assert_eq!(rt; tables.figures, expected);
+    let rows = b"packet,bearer,length,fate,period\r\n0,0,20,delivered,0\r\n1,0,20,waiting,1000\r\n\
+        2,1,20,pending,1000\r\n";
+    assert!(rt; tables.packets.as_slice() == rows.as_slice());
+    let first = b"period,network,application\r\n0,760,63240\r\n1,0,64000\r\n";
+    assert!(rt; tables.periods.starts_with(first.as_slice()));
+    let last = b"998,0,64000\r\n999,128,63872\r\n";
+    assert!(rt; tables.periods.ends_with(last.as_slice()));
+    Ok(())
+}
+
 /// Of five packets at once on a bearer of depth 4 one is lost.
 #[test]
 fn bearer_full(rt: HostRuntime) -> Result<(), Fail> {
