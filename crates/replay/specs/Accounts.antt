@@ -13,7 +13,7 @@ use Rattle.replay.specs.Runs.{Run, entries, periods}
 use Rattle.replay.specs.Stages.{core}
 use Rattle.replay.specs.Turns.{report}
 
--- the last closed period's record joins the others, if it is one more than they are and there is room
+-- the last closed period's record joins the others, if more periods are closed than they are, and there is room
 abbrev pub noted_record : ℕ → Report → List Period → List Period
 noted_record room r ds = option_map_or (λ d. cond (nat_lt (length ds) r.closed && nat_lt (length ds) room) (ds ++ d ∷ []) ds) r.last ds
 

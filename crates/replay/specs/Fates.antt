@@ -30,7 +30,7 @@ decided c (Err r) = None
 decided (Finish n) (Ok a) = Some (record { number = n; fate = Delivered })
 decided c (Ok a) = dropped a
 
--- it is written down, with the periods closed after the call
+-- it is written down, with the periods closed after the call. Of one packet this is done once at the most: its number stands in one place
 abbrev pub noted : Option Decision → ℕ → List (Option Fallen) → List (Option Fallen)
 noted None closed fs = fs
 noted (Some d) closed fs = slice_set fs d.number (Some (record { fate = d.fate; period = closed }))

@@ -34,12 +34,12 @@ first_stamp (q ∷ qs) = q.microseconds
 abbrev pub start : List Bearer → List Captured → Stage
 start bs ps = record { receiver = running standard (fresh bs); coming = ps; first = first_stamp ps; task = None }
 
--- what a receiver holds. That of a replay is always configured
+-- what a receiver holds. That of a replay is configured from the start on; of one that is not, what it would hold then
 abbrev pub core : State → Core
 core (idle bs) = fresh bs
 core (running s x) = x
 
--- Time, in cycles: periods closed, and now; how far it is to the period's end, and to the moment of the next packet.
+-- Time: the periods closed; and in cycles, now, and how far it is to the period's end.
 abbrev pub closed : Stage → ℕ
 closed x = (core x.receiver).clock.closed
 
@@ -49,14 +49,15 @@ now x = closed x * standard.period + (core x.receiver).clock.elapsed
 abbrev pub to_end : Stage → ℕ
 to_end x = standard.period - (core x.receiver).clock.elapsed
 
+-- the next packet to arrive
 abbrev pub next : Stage → Option Captured
 next x = slice_get x.coming 0
 
--- the moment of a packet whose timestamp is before the first one's is 0
+-- a packet's moment, at 64 cycles a microsecond; it is 0 if the timestamp is before the first one's
 abbrev pub moment : Stage → Captured → ℕ
 moment x q = 64 * (q.microseconds - x.first)
 
--- the smaller of the two, or the first if no packet is still to arrive
+-- cycles to the period's end or to the next packet's moment, whichever comes first
 abbrev pub span : Stage → ℕ
 span x = option_map_or (λ q. min (to_end x) (moment x q - now x)) (next x) (to_end x)
 
