@@ -1,4 +1,4 @@
--- Each stage that turns reach is fit; and what calls answer there.
+-- Each stage that turns reach is fit, and the calls of turns are accepted there.
 use Rattle.std.proofs.Common.{◌≡◌, ℕ, ◌+◌, ◌-◌, ◌<◌, ◌≤◌, Bool, true, false, List, [], ◌∷◌, length, drop, Some, None, Ok, Err, Option, Result, is_ok, option_map, option_to_list, refl, sym, ap, ◌∙◌, subst, arith}
 use Rattle.std.specs.List.{AllByRecursion}
 use Rattle.std.proofs.lemmas.Bool.{eq-eqb}
@@ -9,7 +9,6 @@ use Rattle.capture.specs.declared.packets.Captured.{Captured}
 use Rattle.machine.specs.declared.answers.Answer.{Answer}
 use Rattle.machine.specs.declared.answers.Answer.TheVariants.{Configured, Arrived, Worked, Fetched, Finished, Discarded}
 use Rattle.machine.specs.declared.answers.Arrival.{Arrival}
-use Rattle.machine.specs.declared.answers.Counts.{Counts}
 use Rattle.machine.specs.declared.calls.Call.{Call}
 use Rattle.machine.specs.declared.calls.Call.TheVariants.{Configure, Step, Work, Fetch, Finish, Discard}
 use Rattle.machine.specs.declared.refusals.Refusal.{Refusal}
@@ -23,7 +22,7 @@ use Rattle.machine.proofs.Kept.{Kept, KeptState, keeps}
 use Rattle.replay.specs.Fit.{Readable, FitCore, Fit}
 use Rattle.replay.specs.Stages.{Task, Stage, first_stamp, start, core, closed, to_end, span, arrival, coming_after, task_after, turn, after}
 use Rattle.replay.proofs.Applies.{Applies, applies, arrives, finishes, steps, works, fetches, idles, ended, over, span_least, span_most}
-use Rattle.replay.proofs.OneCall.{out_by, numbered_by, move_out, move_numbered, left_by, came, runs, passes, same_bearers, below_period, numbers, fetch_none, arrive_done, work_done, fetch_done, finish_done, discard_done}
+use Rattle.replay.proofs.OneCall.{out_by, numbered_by, left_by, outs, runs, passes, same_bearers, below_period, numbers, fetch_none, arrive_done, work_done, fetch_done, finish_done, discard_done}
 
 -- a packet that the application has is out
 abbrev numbers_of : Option Task → List ℕ
@@ -92,18 +91,17 @@ module _ (p : Batches) {x : Core} {coming : List Captured} {first : ℕ} {task :
       out_by c a x.out ≡ numbers_of u → numbered_by c x.counts.numbered + length qs ≤ 1024 → AllByRecursion (Readable (length x.bearers) first) qs →
       FitCore p (left_by p standard x c) qs first u
   stays bounded l c a e qs u o n r =
-      let k = came p standard x c a e in
       let kept : Kept p standard _ = subst (KeptState p) (runs p standard x c) (keeps p bounded c (running standard x) f.kept) in
       record {
         kept = kept;
         elapsed = below_period p standard x _ f.elapsed (passes p standard x c) kept;
         closed = omega (arith, (passes p standard x c).most);
-        out = k.gate.out ∙ (move_out standard p x c a k.left k.move ∙ o);
-        few = omega (arith, n, ap (λ (m : Counts). m.numbered) k.gate.counts, move_numbered standard p x c a k.left k.move);
+        out = outs p standard x c a e ∙ o;
+        few = omega (arith, n, numbers p standard x c a e);
         readable = subst (λ m. AllByRecursion (Readable m first) qs) (sym (same_bearers p standard x c)) r;
       }
 
--- the call of a turn is accepted, and the stage after it is fit
+-- the call of a turn is accepted, it is numbered if it is an arrival, and the stage after it is fit
 pub record Goes (p : Batches) (x : Stage) (c : Call) : Type 0 where
   pub answer : Answer
   pub answered : (call p c x.receiver).0 ≡ Ok answer

@@ -25,7 +25,7 @@ use Rattle.machine.proofs.Unmoved.{Unmoved, gate_unmoved}
 use Rattle.receiver.proofs.Sizes.{call_size}
 use Rattle.replay.specs.Stages.{core}
 
--- Of one call: how a move changes the figures that Fit speaks of.
+-- what a call makes of the numbers out, and of how many packets are numbered
 abbrev pub out_by : Call → Answer → List ℕ → List ℕ
 out_by Fetch a out = out ++ fetched_by a
 out_by (Finish n) a out = without n out
@@ -59,17 +59,17 @@ same_passes : (s : RawSettings) (k : Clock) → Passes s k k
 same_passes s k = record { least = omega arith; most = omega arith; unoffered = λ e i. absurd (omega (arith, e, i)) }
 
 module _ (s : RawSettings) (p : Batches) (x : Core) where
-  pub move_out : (c : Call) (a : Answer) (y : Core) → Move s p x c a y → y.out ≡ out_by c a x.out
+  move_out : (c : Call) (a : Answer) (y : Core) → Move s p x c a y → y.out ≡ out_by c a x.out
   move_out _ _ _ (fetched e) = refl
   move_out _ _ _ (finished h) = refl
   move_out _ _ _ (discarded h) = refl
   move_out _ _ _ _ = refl
 
-  pub move_numbered : (c : Call) (a : Answer) (y : Core) → Move s p x c a y → y.counts.numbered ≡ numbered_by c x.counts.numbered
+  move_numbered : (c : Call) (a : Answer) (y : Core) → Move s p x c a y → y.counts.numbered ≡ numbered_by c x.counts.numbered
   move_numbered _ _ _ (taken {room = room} e w n less r) = cond_both room _ _ (λ (k : Counts). k.numbered ≡ x.counts.numbered) (λ _. refl) (λ _. refl)
   move_numbered _ _ _ _ = refl
 
-  pub move_passes : (c : Call) (a : Answer) (y : Core) → Move s p x c a y → Passes s x.clock y.clock
+  move_passes : (c : Call) (a : Answer) (y : Core) → Move s p x c a y → Passes s x.clock y.clock
   move_passes _ _ _ (signalled l r e) = settled_passes s x.clock _ refl
   move_passes _ _ _ (begun e i u h) = settled_passes s x.clock _ refl
   move_passes _ _ _ (taken e w n less r) = settled_passes s x.clock _ refl
@@ -107,7 +107,7 @@ module _ (p : Batches) where
   runs s x c = ap (λ (d : Result Answer Refusal × State). d.1) (paired s x c)
 
   -- what is not answered by Ok is refused, and changes nothing
-  pub answered : (s : RawSettings) (x : Core) (c : Call) (P : Core → Type 0) → P x →
+  answered : (s : RawSettings) (x : Core) (c : Call) (P : Core → Type 0) → P x →
       ((a : Answer) → (call p c (running s x)).0 ≡ Ok a → P (left_by s x c)) → P (left_by s x c)
   answered s x c P same done = by (call p c (running s x)).0 refl
     where
@@ -131,13 +131,16 @@ module _ (p : Batches) where
       (λ l. absurd (omega (arith, h.unoffered e l, k.funded.accounts.spent, k.funded.accounts.offered, k.funded.accounts.bound, k.funded.some)))
       (cases_lt z.clock.elapsed s.period)
 
-  -- an arrival is numbered, and no other call is
+  -- fetches go out, and what is spent does not stay; an arrival is numbered, and no other call is
+  pub outs : (s : RawSettings) (x : Core) (c : Call) (a : Answer) → (call p c (running s x)).0 ≡ Ok a → (left_by s x c).out ≡ out_by c a x.out
+  outs s x c a e = let k = came s x c a e in k.gate.out ∙ move_out s p x c a k.left k.move
+
   pub numbers : (s : RawSettings) (x : Core) (c : Call) (a : Answer) → (call p c (running s x)).0 ≡ Ok a →
       (left_by s x c).counts.numbered ≡ numbered_by c x.counts.numbered
   numbers s x c a e =
       let k = came s x c a e in ap (λ (m : Counts). m.numbered) k.gate.counts ∙ move_numbered s p x c a k.left k.move
 
-  -- an answer to an arrival gives the next number
+  -- an arrival is answered by the next number
   move_arrives : (s : RawSettings) (x y : Core) (c : Call) (d : Answer) (a : Arrival) → Move s p x c d y → d ≡ Arrived a → Arrives c a x.counts.numbered
   move_arrives s x _ _ _ a (lost l r) e = record { bearer = _; length = _; tag = _; asked = refl; number = cc e }
   move_arrives s x _ _ _ a (stored l r h) e = record { bearer = _; length = _; tag = _; asked = refl; number = cc e }
