@@ -56,23 +56,23 @@ added f (Some d) = cond (same f d.fate) (d.number ∷ []) []
 abbrev Settles : Option Decision → Columns → Columns → Type 0
 Settles d k j = (f : Fate) → settled f j ≡ settled f k ++ added f d
 
+settles : (d : Option Decision) (k j : Columns) → j.delivered ≡ k.delivered ++ added Delivered d → j.bearer_full ≡ k.bearer_full ++ added BearerFull d →
+    j.queue_full ≡ k.queue_full ++ added QueueFull d → added Waiting d ≡ [] → added Pending d ≡ [] → Settles d k j
+settles d k j e f g w q Delivered = e
+settles d k j e f g w q BearerFull = f
+settles d k j e f g w q QueueFull = g
+settles d k j e f g w q Waiting = sym w
+settles d k j e f g w q Pending = sym q
+
 settles_none : (k j : Columns) → j.delivered ≡ k.delivered → j.bearer_full ≡ k.bearer_full → j.queue_full ≡ k.queue_full → Settles None k j
-settles_none k j d b q Delivered = d ∙ sym (append-nil k.delivered)
-settles_none k j d b q BearerFull = b ∙ sym (append-nil k.bearer_full)
-settles_none k j d b q QueueFull = q ∙ sym (append-nil k.queue_full)
-settles_none k j d b q Waiting = refl
-settles_none k j d b q Pending = refl
+settles_none k j e f g =
+    settles None k j (e ∙ sym (append-nil k.delivered)) (f ∙ sym (append-nil k.bearer_full)) (g ∙ sym (append-nil k.queue_full)) refl refl
 
 settles_arrival : (room : Bool) (b : ℕ) (l : Ledger) → Settles (dropped (Arrived (record { number = l.next; accepted = room }))) l.columns (put_in room b l)
 settles_arrival true b l = settles_none l.columns (put_in true b l) refl refl refl
-settles_arrival false b l = late
-  where
-    late : Settles (Some (record { number = l.next; fate = BearerFull })) l.columns (put_in false b l)
-    late Delivered = sym (append-nil l.columns.delivered)
-    late BearerFull = refl
-    late QueueFull = sym (append-nil l.columns.queue_full)
-    late Waiting = refl
-    late Pending = refl
+settles_arrival false b l =
+    settles (Some (record { number = l.next; fate = BearerFull })) l.columns (put_in false b l) (sym (append-nil l.columns.delivered)) refl
+    (sym (append-nil l.columns.queue_full)) refl refl
 
 front_taken : (c : List ℕ) (n : ℕ) → slice_get c 0 ≡ Some n → take 1 c ≡ n ∷ []
 front_taken [] n h = cc h
@@ -81,21 +81,13 @@ front_taken (m ∷ c) n h = cc h
 settles_taken : (room : Bool) (b n : ℕ) (k : Columns) → take 1 (get_or k.waiting b []) ≡ n ∷ [] →
     Settles (dropped (Stepped (Taken n room))) k (taken_from room b k)
 settles_taken true b n k h = settles_none k (taken_from true b k) refl refl refl
-settles_taken false b n k h = late
-  where
-    late : Settles (Some (record { number = n; fate = QueueFull })) k (taken_from false b k)
-    late Delivered = sym (append-nil k.delivered)
-    late BearerFull = sym (append-nil k.bearer_full)
-    late QueueFull = ap (λ ns. k.queue_full ++ ns) h
-    late Waiting = refl
-    late Pending = refl
+settles_taken false b n k h =
+    settles (Some (record { number = n; fate = QueueFull })) k (taken_from false b k) (sym (append-nil k.delivered)) (sym (append-nil k.bearer_full))
+    (ap (λ ns. k.queue_full ++ ns) h) refl refl
 
 settles_finish : (n : ℕ) (k : Columns) → Settles (Some (record { number = n; fate = Delivered })) k (spent true n k)
-settles_finish n k Delivered = refl
-settles_finish n k BearerFull = sym (append-nil k.bearer_full)
-settles_finish n k QueueFull = sym (append-nil k.queue_full)
-settles_finish n k Waiting = refl
-settles_finish n k Pending = refl
+settles_finish n k =
+    settles (Some (record { number = n; fate = Delivered })) k (spent true n k) refl (sym (append-nil k.bearer_full)) (sym (append-nil k.queue_full)) refl refl
 
 -- what an entry that is true to the ledger decides, the ledger moves
 module _ (depths : List ℕ) (l : Ledger) where
