@@ -29,7 +29,7 @@ pub data Applies (p : Batches) (x : Stage) : Option Call → Type 0 where
   idles : Past p x → x.task ≡ None → any_left (core x.receiver).queue ≡ false → is_over x ≡ false → Applies p x (Some (Work (span x)))
 
 -- a task that is not there
-pub no_task : (o : Option Task) → is_some o ≡ false → o ≡ None
+no_task : (o : Option Task) → is_some o ≡ false → o ≡ None
 no_task None h = refl
 no_task (Some t) h = cc h
 

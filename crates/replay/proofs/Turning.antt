@@ -1,12 +1,13 @@
 -- Which rule a turn goes by, and what it then comes to.
-use Rattle.std.proofs.Common.{◌≡◌, ℕ, ◌<◌, ◌≤◌, true, false, leb, Some, None, Option, refl, ap, ◌∙◌, is_ok, is_some, min, IfSome}
+use Rattle.std.proofs.Common.{◌≡◌, ℕ, ◌<◌, ◌≤◌, Bool, true, false, leb, Some, None, Option, refl, subst, ◌∙◌, is_ok, is_some, min, IfSome}
 use Rattle.std.proofs.lemmas.Bool.{le-leb, lt-leb}
-use Rattle.std.specs.Option.{option_map}
-use Rattle.capture.specs.declared.packets.Captured.{Captured}
+use Rattle.std.specs.Option.{option_map, option_map_or}
+use Rattle.machine.specs.declared.calls.Call.{Call}
 use Rattle.machine.specs.declared.calls.Call.TheVariants.{Step, Work, Fetch, Finish}
 use Rattle.machine.specs.Machine.{any_left, call}
 use Rattle.machine.specs.State.{Batches}
 use Rattle.replay.specs.declared.fates.Decision.{Decision}
+use Rattle.replay.specs.declared.stages.Turn.{Turn}
 use Rattle.replay.specs.declared.stages.Turn.TheVariants.{Made, Stop}
 use Rattle.replay.specs.Stages.{Task, Stage, arrival, closed, core, is_due, is_over, is_through, next, span, turn}
 use Rattle.replay.specs.Turns.{Makes, Playing, Turned, answer_to, policy_of}
@@ -47,58 +48,77 @@ module _ (p : Batches) (x : Stage) where
     unfolding turn
     waits a b c = rw (going, early, none_through, refused, a, c, b) refl
 
+-- what is tested of something is tested of some
+some_tested : {A : Type 0} (f : A → Bool) (o : Option A) → option_map_or f o false ≡ true → is_some o ≡ true
+some_tested f (Some a) e = refl
+some_tested f None e = cc e
+
 -- What a turn comes to, by what was done.
 module _ {P : Type 0} (quotas : P → ℕ → ℕ → ℕ) (greatest : ℕ) (x : Playing P) where
   abbrev p : Batches
   p = policy_of quotas greatest x
 
-  pub stops_ended : 1000 ≤ closed x.stage → Turned quotas greatest x Stop x
+  abbrev Comes : Turn → Playing P → Type 0
+  Comes = Turned quotas greatest x
+
+  abbrev Does : Call → Option Decision → Playing P → Type 0
+  Does c = Makes quotas greatest c x
+
+  -- a call that speaks of a packet, if there is one
+  made : {A : Type 0} (c : A → Call) (o : Option A) {d : Option Decision} {y : Playing P} → is_some o ≡ true → turn p x.stage ≡ option_map c o →
+      IfSome o (λ a. Does (c a) d y) → Comes (Made d) y
+  made c (Some a) s t m = (c a, t, m)
+  made c None s t m = cc s
+
+  pub stops_ended : 1000 ≤ closed x.stage → Comes Stop x
   stops_ended l = (ended p x.stage (le-leb 1000 (closed x.stage) l), refl)
 
   module _ (l : closed x.stage < 1000) where
     going : leb 1000 (closed x.stage) ≡ false
     going = lt-leb 1000 (closed x.stage) l
 
-    pub arrived : (d : Option Decision) (y : Playing P) → is_due x.stage ≡ true → IfSome (next x.stage) (λ q. Makes quotas greatest (arrival q) x d y) → Turned quotas greatest x (Made d) y
-    arrived d y e made = by (next x.stage) refl made
-      where
-        by : (o : Option Captured) → next x.stage ≡ o → IfSome o (λ q. Makes quotas greatest (arrival q) x d y) → Turned quotas greatest x (Made d) y
-        by (Some q) f m = (arrival q, due p x.stage going e ∙ ap (option_map arrival) f, m)
-        by None f m = cc (e, f)
+    pub arrived : (d : Option Decision) (y : Playing P) → is_due x.stage ≡ true → IfSome (next x.stage) (λ q. Does (arrival q) d y) → Comes (Made d) y
+    arrived d y e m = made arrival (next x.stage) (some_tested _ (next x.stage) e) (due p x.stage going e) m
 
     module _ (early : is_due x.stage ≡ false) where
-      pub finished : (d : Option Decision) (y : Playing P) → is_through x.stage ≡ true → IfSome x.stage.task (λ t. Makes quotas greatest (Finish t.number) x d y) → Turned quotas greatest x (Made d) y
-      finished d y e made = by x.stage.task refl made
-        where
-          by : (o : Option Task) → x.stage.task ≡ o → IfSome o (λ t. Makes quotas greatest (Finish t.number) x d y) → Turned quotas greatest x (Made d) y
-          by (Some t) f m = (Finish t.number, through p x.stage going early e ∙ ap (option_map (λ (u : Task). Finish u.number)) f, m)
-          by None f m = cc (e, f)
+      pub finished : (d : Option Decision) (y : Playing P) → is_through x.stage ≡ true → IfSome x.stage.task (λ t. Does (Finish t.number) d y) → Comes (Made d) y
+      finished d y e m = made (λ (t : Task). Finish t.number) x.stage.task (some_tested _ x.stage.task e) (through p x.stage going early e) m
 
       module _ (none_through : is_through x.stage ≡ false) where
-        pub stepped : (d : Option Decision) (y : Playing P) → is_ok (answer_to quotas greatest Step x) ≡ true → Makes quotas greatest Step x d y → Turned quotas greatest x (Made d) y
+        pub stepped : (d : Option Decision) (y : Playing P) → is_ok (answer_to quotas greatest Step x) ≡ true → Does Step d y → Comes (Made d) y
         stepped d y e m = (Step, steps p x.stage going early none_through e, m)
 
         module _ (refused : is_ok (answer_to quotas greatest Step x) ≡ false) where
-          pub worked : (y : Playing P) → is_some x.stage.task ≡ true → IfSome x.stage.task (λ t. Makes quotas greatest (Work (min t.to_go (span x.stage))) x None y) →
-              Turned quotas greatest x (Made None) y
-          worked y e made = by x.stage.task refl made
-            where
-              by : (o : Option Task) → x.stage.task ≡ o → IfSome o (λ t. Makes quotas greatest (Work (min t.to_go (span x.stage))) x None y) → Turned quotas greatest x (Made None) y
-              by (Some t) f m = (Work (min t.to_go (span x.stage)), works p x.stage going early none_through refused e ∙ ap (option_map (λ (u : Task). Work (min u.to_go (span x.stage)))) f, m)
-              by None f m = cc (e, f)
+          pub worked : (y : Playing P) → is_some x.stage.task ≡ true → IfSome x.stage.task (λ t. Does (Work (min t.to_go (span x.stage))) None y) →
+              Comes (Made None) y
+          worked y e m =
+              made (λ (t : Task). Work (min t.to_go (span x.stage))) x.stage.task e (works p x.stage going early none_through refused e) m
 
-          module _ (none : x.stage.task ≡ None) where
-            idle : is_some x.stage.task ≡ false
-            idle = ap is_some none
+          -- the application has no packet, so that work on one leaves w as it was
+          module _ (idle : is_some x.stage.task ≡ false) {w : Playing P} (unworked : w ≡ x) where
+            pub fetched : (y : Playing P) → any_left (core w.stage.receiver).queue ≡ true → Makes quotas greatest Fetch w None y → Comes (Made None) y
+            fetched y h m = (
+              Fetch,
+              fetches p x.stage going early none_through refused idle (subst (λ (v : Playing P). any_left (core v.stage.receiver).queue ≡ true) unworked h),
+              subst (λ (v : Playing P). Makes quotas greatest Fetch v None y) unworked m,
+            )
 
-            pub fetched : (y : Playing P) → any_left (core x.stage.receiver).queue ≡ true → Makes quotas greatest Fetch x None y → Turned quotas greatest x (Made None) y
-            fetched y e m = (Fetch, fetches p x.stage going early none_through refused idle e, m)
+            -- nor is there one to fetch, so that a fetch leaves v as it was
+            module _ (empty : any_left (core w.stage.receiver).queue ≡ false) {v : Playing P} (unfetched : v ≡ w) where
+              same : v ≡ x
+              same = unfetched ∙ unworked
 
-            module _ (empty : any_left (core x.stage.receiver).queue ≡ false) where
-              pub stops_over : is_over x.stage ≡ true → Turned quotas greatest x Stop x
-              stops_over e = (over p x.stage going early none_through refused idle empty e, refl)
+              none_queued : any_left (core x.stage.receiver).queue ≡ false
+              none_queued = subst (λ (v : Playing P). any_left (core v.stage.receiver).queue ≡ false) unworked empty
 
-              pub waited : (y : Playing P) → is_over x.stage ≡ false → Makes quotas greatest (Work (span x.stage)) x None y → Turned quotas greatest x (Made None) y
-              waited y e m = (Work (span x.stage), waits p x.stage going early none_through refused idle empty e, m)
+              pub stopped_over : is_over v.stage ≡ true → Comes Stop v
+              stopped_over h = (over p x.stage going early none_through refused idle none_queued (subst (λ (u : Playing P). is_over u.stage ≡ true) same h), same)
+
+              pub waited : (y : Playing P) → is_over v.stage ≡ false → Makes quotas greatest (Work (span v.stage)) v None y → Comes (Made None) y
+              waited y h m = (
+                Work (span x.stage),
+                waits p x.stage going early none_through refused idle none_queued (subst (λ (u : Playing P). is_over u.stage ≡ false) same h),
+                subst (λ (u : Playing P). Makes quotas greatest (Work (span u.stage)) u None y) same m,
+              )
 
 pub ruleset turning = (stops_ended, arrived, finished, stepped)
