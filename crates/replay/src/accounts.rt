@@ -1,4 +1,4 @@
-ghost use Rattle.std.specs.Prelude.{◌≡◌, ◌<◌, ◌≤◌, ◌∷◌, ◌++◌, [], IfOk};
+ghost use Rattle.std.specs.Prelude.{◌≡◌, IfOk};
 ghost use Rattle.ring.specs.Queue.{held, places};
 ghost use Rattle.replay.specs.Accounts.{noted_record};
 ghost use Rattle.replay.specs.Fates.{noted, in_the_end, all_in_the_end};

@@ -1,12 +1,9 @@
-ghost use Rattle.std.specs.Prelude.{◌≡◌, ◌<◌, ◌-◌, ℕ, true, false, None, Some, Ok, IfSome, IfNone, IfOk, OnOk, OnErr, ◌≢◌, if◌then◌else◌, is_some, is_ok, min};
+ghost use Rattle.std.specs.Prelude.{◌≡◌, ◌<◌, false, None, IfSome, IfOk, OnOk, OnErr, ◌≢◌, is_some, is_ok, min};
 ghost use Rattle.std.specs.Option.{option_map};
-ghost use Rattle.machine.specs.declared.answers.Answer.TheVariants.{Told};
-ghost use Rattle.machine.specs.declared.calls.Call.TheVariants.{Tell, Step, Finish, Fetch, Work};
-ghost use Rattle.machine.specs.State.{running};
-ghost use Rattle.machine.specs.Examples.{standard};
-ghost use Rattle.machine.specs.Machine.{any_left, call};
+ghost use Rattle.machine.specs.declared.calls.Call.TheVariants.{Step, Finish, Fetch, Work};
+ghost use Rattle.machine.specs.Machine.{any_left};
 ghost use Rattle.replay.specs.Fit.{Playable};
-ghost use Rattle.replay.specs.Stages.{closed, now, to_end, next, moment, span, is_due, is_through, is_over, turn, after, first_stamp, arrival, core};
+ghost use Rattle.replay.specs.Stages.{closed, now, to_end, next, moment, span, is_due, is_through, is_over, first_stamp, arrival, core};
 ghost use Rattle.replay.specs.Turns.{Makes, Turned, answer_to, let_go, report};
 
 use crate::fates::{Decision, Fate};
