@@ -1,5 +1,5 @@
 -- A whole replay: the turns that lead from the start to a stop, and what came of it.
-use Rattle.std.specs.Prelude.{◌≡◌, ℕ, zero, suc, ◌-◌, List, [], ◌∷◌, ◌++◌, length, None}
+use Rattle.std.specs.Prelude.{◌≡◌, ℕ, zero, suc, ◌-◌, List, [], ◌∷◌, ◌++◌, length, None, IsOk}
 use Rattle.board.specs.Bearers.{Bearer}
 use Rattle.capture.specs.declared.packets.Captured.{Captured}
 use Rattle.machine.specs.declared.answers.Period.{Period}
@@ -31,9 +31,18 @@ module _ (p : Batches) (bs : List Bearer) where
     pub leads : Leads p (start bs ps) calls stop
     pub stops : turn p stop ≡ None
 
+  -- there is no other
+  pub record OneRun (ps : List Captured) (r : Run ps) : Type 0 where
+    pub same_calls : (s : Run ps) → s.calls ≡ r.calls
+    pub same_stop : (s : Run ps) → s.stop ≡ r.stop
+
   -- the trace of its calls, and of configure before them
   abbrev pub entries : List Call → List Entry
   entries cs = trace p (idle bs) (Configure standard ∷ cs)
+
+  -- none of these calls is refused
+  abbrev pub AllAccepted : (ps : List Captured) → Run ps → Type 0
+  AllAccepted ps r = (before rest : List Entry) (e : Entry) → entries r.calls ≡ before ++ e ∷ rest → IsOk e.answered
 
   -- what became of each packet
   abbrev pub outcomes : (ps : List Captured) → Run ps → List Fallen

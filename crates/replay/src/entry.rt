@@ -6,7 +6,7 @@ ghost use Rattle.replay.specs.Answers.{Declines, EveryRun, Refuses, Replays, Tab
 ghost use Rattle.replay.specs.ByLedger.{RowsByLedger};
 ghost use Rattle.replay.specs.Fit.{Readable};
 ghost use Rattle.replay.specs.Lawful.{Lawful};
-ghost use Rattle.replay.specs.Runs.{entries};
+ghost use Rattle.replay.specs.Runs.{AllAccepted, OneRun, entries};
 ghost use Rattle.replay.specs.Stages.{first_stamp};
 
 use crate::accounts::in_the_end;
@@ -86,6 +86,8 @@ pub fn replay(
     ensures refused { IfErr result (λ e. Declines (meaning 3 bytes.now) packets.old periods.old e) }
     ensures packets_same { OnErr result (packets.new ≡ packets.old) }
     ensures periods_same { OnErr result (periods.new ≡ periods.old) }
+    ensures one_run { OnOk result (EveryRun (meaning 3 bytes.now) (OneRun four standard_board)) }
+    ensures accepted { OnOk result (EveryRun (meaning 3 bytes.now) (AllAccepted four standard_board)) }
     ensures by_ledger { OnOk result (EveryRun (meaning 3 bytes.now) (RowsByLedger four standard_board)) }
     ensures laws { OnOk result (EveryRun (meaning 3 bytes.now) (λ _ r. Lawful four standard_board (entries four standard_board r.calls))) }
 {

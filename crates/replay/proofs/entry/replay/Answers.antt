@@ -1,5 +1,5 @@
 use Rattle.std.proofs.Common.{rules}
-use Rattle.replay.proofs.EveryRun.{laws, rows_by_ledger}
+use Rattle.replay.proofs.EveryRun.{accepted, laws, one_run, rows_by_ledger}
 use Rattle.replay.proofs.Lent.{first_small, second_small, both_written}
 use Rattle.replay.proofs.entry.replay.Goals as goal
 
@@ -16,6 +16,12 @@ pub returns-clause-value : goal.returns-clause-value
 returns-clause-value c =
     both_written c.in_ok-tables.ensures.value c.args.packets.now c.args.periods.now (search rules) (search rules) (search rules) (search rules) (search rules)
     (search rules)
+
+pub returns-clause-one_run : goal.returns-clause-one_run
+returns-clause-one_run c = one_run c.args.bytes.now
+
+pub returns-clause-accepted : goal.returns-clause-accepted
+returns-clause-accepted c = accepted c.args.bytes.now
 
 pub returns-clause-by_ledger : goal.returns-clause-by_ledger
 returns-clause-by_ledger c = rows_by_ledger c.args.bytes.now
