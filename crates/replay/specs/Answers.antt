@@ -5,7 +5,8 @@ use Rattle.capture.specs.declared.refusals.ReadError.{ReadError}
 use Rattle.capture.specs.declared.refusals.ReadError.TheVariants as reading
 use Rattle.capture.specs.Meaning.{Meaning}
 use Rattle.machine.specs.Examples.{four, standard_board}
-use Rattle.table.specs.Memory.{fits, left}
+use Rattle.table.specs.Memory.{fits, left, refusal}
+use Rattle.table.specs.declared.memory.TooSmall.{TooSmall}
 use Rattle.replay.specs.declared.answers.FateCounts.{FateCounts}
 use Rattle.replay.specs.declared.answers.Figures.{Figures}
 use Rattle.replay.specs.declared.answers.Replayed.{Replayed}
@@ -13,13 +14,26 @@ use Rattle.replay.specs.declared.answers.Tables.{Tables}
 use Rattle.replay.specs.declared.fates.Fallen.{Fallen}
 use Rattle.replay.specs.declared.fates.Fate.{Fate}
 use Rattle.replay.specs.declared.fates.Fate.TheVariants.{Delivered, BearerFull, QueueFull, Waiting, Pending}
-use Rattle.replay.specs.declared.refusals.Refusal.{Refusal}
-use Rattle.replay.specs.declared.refusals.Refusal.TheVariants.{Unreadable, TooSmall}
+use Rattle.replay.specs.declared.refusals.Refusal.TheVariants.{Unreadable, TooSmall as TableTooSmall}
 use Rattle.replay.specs.declared.refusals.ReplayError.{ReplayError}
 use Rattle.replay.specs.declared.refusals.ReplayError.TheVariants.{Memory, Refused}
 use Rattle.replay.specs.Runs.{Run, outcomes, periods}
 use Rattle.replay.specs.Stages.{closed}
 use Rattle.replay.specs.Tables.{packets_table, periods_table}
+
+-- What is answered where tables are to be written into so much memory: the packets' table is asked for first.
+abbrev pub fitted : Figures → List ℕ → List ℕ → List ℕ → List ℕ → Result Replayed TooSmall
+fitted f packets_text periods_text packets periods =
+    cond (fits packets 0 packets_text)
+    (cond (fits periods 0 periods_text)
+    (Ok (record { figures = f; packets_len = length packets_text; periods_len = length periods_text }))
+    (Err (refusal periods_text)))
+    (Err (refusal packets_text))
+
+-- and what is left in a memory: its table, if both are written
+abbrev pub left_in : Result Replayed TooSmall → List ℕ → List ℕ → List ℕ
+left_in (Ok d) text memory = left memory 0 text
+left_in (Err e) text memory = memory
 
 -- how many packets there are of each fate
 abbrev pub one_more : Fate → FateCounts → FateCounts
@@ -53,15 +67,6 @@ module _ (ps : List Captured) (r : StandardRun ps) where
   abbrev pub periods_text : List ℕ
   periods_text = periods_table (periods four standard_board ps r)
 
-  -- what is answered where so much memory is lent: the packets' table is asked for first
-  abbrev pub answer : List ℕ → List ℕ → Result Replayed Refusal
-  answer packets periods =
-      cond (fits packets 0 packets_text)
-      (cond (fits periods 0 periods_text)
-      (Ok (record { figures = figures; packets_len = length packets_text; periods_len = length periods_text }))
-      (Err (TooSmall (length periods_text))))
-      (Err (TooSmall (length packets_text)))
-
 -- When an answer is what a capture's replay comes to. Want of memory says nothing of the capture.
 abbrev pub Refuses : Meaning → ReadError → Type 0
 Refuses m (reading.Refused f) = m ≡ Err f
@@ -86,11 +91,11 @@ EveryRun (Ok ps) P = (r : StandardRun ps) → P ps r
 EveryRun (Err f) P = Unit {0}
 
 -- what is answered to a capture that is read, where no want of memory of the host's comes between
-pub record Answered (m : Meaning) (packets periods : List ℕ) (r : Result Replayed Refusal) : Type 0 where
+pub record Answered (m : Meaning) (packets periods : List ℕ) (r : Result Replayed TooSmall) : Type 0 where
   pub captured : List Captured
   pub means : m ≡ Ok captured
   pub run : StandardRun captured
-  pub answer_is : answer captured run packets periods ≡ r
+  pub answer_is : r ≡ fitted (figures captured run) (packets_text captured run) (periods_text captured run) packets periods
 
 -- a replay answers, and leaves its tables in the memory that is lent for them
 pub record Replays (m : Meaning) (packets periods : List ℕ) (done : Replayed) (packets_left periods_left : List ℕ) : Type 0 where
@@ -101,5 +106,5 @@ pub record Replays (m : Meaning) (packets periods : List ℕ) (done : Replayed) 
 -- or it is refused
 abbrev pub Declines : Meaning → List ℕ → List ℕ → ReplayError → Type 0
 Declines m packets periods (Refused (Unreadable f)) = m ≡ Err f
-Declines m packets periods (Refused (TooSmall need)) = Answered m packets periods (Err (TooSmall need))
+Declines m packets periods (Refused (TableTooSmall need)) = Answered m packets periods (Err (record { need = need }))
 Declines m packets periods Memory = Unit {0}

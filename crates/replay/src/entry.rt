@@ -11,7 +11,7 @@ ghost use Rattle.replay.specs.Stages.{first_stamp};
 
 use crate::accounts::in_the_end;
 use crate::answers::{FateCounts, Figures, Replayed, Tables};
-use crate::refusals::{Refusal, ReplayError};
+use crate::refusals::ReplayError;
 use crate::runs::run;
 use crate::stages::MOST_PERIODS;
 use crate::texts::{packets_table, periods_table};
@@ -20,7 +20,6 @@ use capture::{Captured, ReadError, read};
 use machine::Period;
 use policy::Fixed;
 use std::alloc::{AllocError, Global};
-use table::put;
 
 /// How many bearers the replay's board shows.
 const SHOWN: usize = 3;
@@ -91,20 +90,6 @@ pub fn replay(
     ensures by_ledger { OnOk result (EveryRun (meaning 3 bytes.now) (RowsByLedger four standard_board)) }
     ensures laws { OnOk result (EveryRun (meaning 3 bytes.now) (λ _ r. Lawful four standard_board (entries four standard_board r.calls))) }
 {
-    let tables = tables(alloc, bytes)?;
-    let (packets_len, periods_len) = (tables.packets.len(), tables.periods.len());
-    if packets.len() < packets_len {
-        return Err(Refusal::TooSmall(packets_len).into());
-    }
-    if periods.len() < periods_len {
-        return Err(Refusal::TooSmall(periods_len).into());
-    }
-    // Neither is refused: both tables fit.
-    let _ = put(packets, 0, tables.packets.as_slice());
-    let _ = put(periods, 0, tables.periods.as_slice());
-    Ok(Replayed {
-        figures: tables.figures,
-        packets_len,
-        periods_len,
-    })
+    let written = tables(alloc, bytes)?.write_into(packets, periods)?;
+    Ok(written)
 }

@@ -5,6 +5,7 @@ mod accounts;
 mod answers;
 mod entry;
 mod fates;
+mod memory;
 mod refusals;
 mod runs;
 mod stages;

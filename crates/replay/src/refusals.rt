@@ -1,9 +1,10 @@
 ghost use Rattle.std.specs.Prelude.{◌≡◌};
 ghost use Rattle.replay.specs.Refusals.{number_of, place_of};
+ghost use Rattle.replay.specs.declared.refusals.Refusal.TheVariants as refusal;
 ghost use Rattle.replay.specs.declared.refusals.ReplayError.TheVariants as error;
 
 use capture::ReadError;
-use std::alloc::AllocError;
+use table::TooSmall;
 
 /// Why a capture is not replayed, or its tables are not written.
 #[derive(Clone, Copy, PartialEq, Eq, Debug)]
@@ -42,14 +43,6 @@ pub enum ReplayError {
     Refused(Refusal),
 }
 
-impl From<Refusal> for ReplayError {
-    ghost from_gives = { λ refusal r. r ≡ error.Refused refusal };
-
-    fn from(refusal: Refusal) -> ReplayError {
-        ReplayError::Refused(refusal)
-    }
-}
-
 impl From<ReadError> for ReplayError {
     ghost use Rattle.replay.specs.Answers.{passed_on};
 
@@ -63,10 +56,10 @@ impl From<ReadError> for ReplayError {
     }
 }
 
-impl From<AllocError> for ReplayError {
-    ghost from_gives = { λ _ r. r ≡ error.Memory };
+impl From<TooSmall> for ReplayError {
+    ghost from_gives = { λ small r. r ≡ error.Refused (refusal.TooSmall small.need) };
 
-    fn from(_e: AllocError) -> ReplayError {
-        ReplayError::Memory
+    fn from(small: TooSmall) -> ReplayError {
+        ReplayError::Refused(Refusal::TooSmall(small.need))
     }
 }

@@ -1,21 +1,17 @@
-use Rattle.std.proofs.Common.{rules}
+use Rattle.std.proofs.Common.{rules, sym, ◌∙◌}
+use Rattle.std.proofs.lemmas.Result.{err_from_is_err_and}
 use Rattle.replay.proofs.EveryRun.{accepted, laws, one_run, rows_by_ledger}
-use Rattle.replay.proofs.Lent.{first_small, second_small, both_written}
+use Rattle.replay.proofs.Lent.{declined, written}
 use Rattle.replay.proofs.entry.replay.Goals as goal
 
-pub returns-then-packets-packets_len-clause-refused : goal.returns-then-packets-packets_len-clause-refused
-returns-then-packets-packets_len-clause-refused c =
-    first_small c.in_ok-tables.ensures.value c.args.packets.now c.args.periods.now {n = c.len-packets_len.result} (search rules) (search rules) (search rules)
-
-pub returns-then-periods-periods_len-clause-refused : goal.returns-then-periods-periods_len-clause-refused
-returns-then-periods-periods_len-clause-refused c =
-    second_small c.in_ok-tables.ensures.value c.args.packets.now c.args.periods.now (search rules) {n = c.len-periods_len.result} (search rules) (search rules)
-    (search rules)
+pub returns-in_err-written-clause-refused : goal.returns-in_err-written-clause-refused
+returns-in_err-written-clause-refused c =
+    let e = err_from_is_err_and c.from_residual-in_err-written.result c.from_residual-in_err-written.ensures.1 in
+    rw e.1
+    (declined c.in_ok-tables.ensures.value c.args.packets.now c.args.periods.now (sym c.in_err-written.was ∙ c.write_into.ensures.value) e.2)
 
 pub returns-clause-value : goal.returns-clause-value
-returns-clause-value c =
-    both_written c.in_ok-tables.ensures.value c.args.packets.now c.args.periods.now (search rules) (search rules) (search rules) (search rules) (search rules)
-    (search rules)
+returns-clause-value c = written c.in_ok-tables.ensures.value c.args.packets.now c.args.periods.now (search rules) (search rules) (search rules)
 
 pub returns-clause-one_run : goal.returns-clause-one_run
 returns-clause-one_run c = one_run c.args.bytes.now
