@@ -1,4 +1,5 @@
 //! The proved receiver and replay beside a second writing of the same rules,
 //! so that the two can be compared call by call and byte by byte.
 
+pub mod reference;
 pub mod terms;
