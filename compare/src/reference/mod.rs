@@ -3,14 +3,22 @@
 
 mod boards;
 mod calls;
+mod captures;
 mod clock;
 mod packets;
 mod policies;
 mod receiver;
 mod refusals;
+mod replay;
 mod settings;
+mod tables;
 
 #[cfg(test)]
 mod examples;
+#[cfg(test)]
+mod samples;
+#[cfg(test)]
+mod savefiles;
 
 pub use calls::answers;
+pub use replay::replay;
