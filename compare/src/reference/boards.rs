@@ -167,3 +167,57 @@ impl Board {
         costs.max().unwrap_or(0)
     }
 }
+
+#[cfg(test)]
+mod tests {
+    use super::*;
+
+    fn board(kind: Kind) -> Board {
+        Board::new(&[terms::Bearer {
+            kind,
+            depth: 1,
+            occupied: false,
+        }])
+    }
+
+    /// No call of a receiver shows this: whatever arming signals while packets
+    /// wait is taken back at once.
+    #[test]
+    fn only_a_ring_signals_what_waits_as_it_is_armed() {
+        for (kind, raised) in [(Kind::Ring, true), (Kind::Mailbox, false)] {
+            let mut board = board(kind);
+            assert_eq!(board.offer(0, OCCUPANT), Offered::Taken);
+            assert!(!board.signal(0));
+            board.arm(0);
+            assert_eq!(board.signal(0), raised);
+            board.disarm(0);
+            assert!(!board.signal(0));
+        }
+    }
+
+    #[test]
+    fn a_packet_raises_the_signal_of_an_armed_bearer() {
+        for kind in [Kind::Ring, Kind::Mailbox] {
+            let mut board = board(kind);
+            board.arm(0);
+            assert!(!board.signal(0));
+            assert_eq!(board.offer(0, OCCUPANT), Offered::Taken);
+            assert_eq!(board.offer(0, OCCUPANT), Offered::Refused);
+            board.arm(0);
+            assert!(board.signal(0));
+            assert_eq!(board.take(0), Some(OCCUPANT));
+            assert!(!board.signal(0));
+            assert_eq!(board.take(0), None);
+        }
+    }
+
+    #[test]
+    fn a_bearer_that_is_not_shown_has_nothing() {
+        let mut board = board(Kind::Ring);
+        board.arm(1);
+        assert_eq!(board.offer(1, OCCUPANT), Offered::Refused);
+        assert_eq!(board.take(1), None);
+        assert_eq!((board.cost(1), board.waiting(1)), (0, 0));
+        assert!(!board.signal(1));
+    }
+}

@@ -355,20 +355,24 @@ fn example_s() {
     );
 }
 
+/// Used is 560 behind the close, and the hold is 1: which of them a step is
+/// refused for tells a limit of 560 from one of 561.
 #[test]
 fn example_u() {
-    check(
-        [64_000, 32_000, 1, 1, 0, 1],
-        &[
-            (arrive(0, 1), "arrived 0 accepted"),
-            (Step, "begun 0 quota 4"),
-            (Work(63_800), "worked"),
-            (Step, "taken 0 queued"),
-            (Step, "completed"),
-            (Step, "refused 25 place 0"),
-            (Work(63_441), "refused 27 place 63440"),
-        ],
-    );
+    for (limit, refused) in [(560, "refused 24 place 0"), (561, "refused 25 place 0")] {
+        check(
+            [64_000, limit, 1, 1, 0, 1],
+            &[
+                (arrive(0, 1), "arrived 0 accepted"),
+                (Step, "begun 0 quota 4"),
+                (Work(63_800), "worked"),
+                (Step, "taken 0 queued"),
+                (Step, "completed"),
+                (Step, refused),
+                (Work(63_441), "refused 27 place 63440"),
+            ],
+        );
+    }
 }
 
 const FOUR_ON_BEARER_0: [(Call, &str); 4] = [
