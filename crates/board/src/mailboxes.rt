@@ -58,13 +58,14 @@ fn oldest(slots: &Slots) -> Option<Held>
         .flatten()
 }
 
-/// One place further up, unless it is the oldest, which leaves.
-fn moved_up(slot: Option<Held>) -> Option<Held>
-    ensures value { result ≡ advanced slot }
+/// Moves a slot's packet up by one place, unless it is the oldest, which leaves.
+fn move_up(slot: &mut Option<Held>)
+    ensures after { slot.new ≡ advanced slot.old }
 {
-    let held = slot?;
-    let place = held.place.checked_sub(1)?;
-    Some(Held { place, ..held })
+    match slot {
+        Some(held) if held.place > 0 => held.place -= 1,
+        _ => *slot = None,
+    }
 }
 
 /// Frees the slot of the oldest packet, and moves every other packet up by one place.
@@ -72,7 +73,7 @@ fn advance(slots: &mut Slots)
     ensures after { slots.new ≡ map advanced slots.old }
 {
     for slot in slots.iter_mut() {
-        *slot = moved_up(*slot);
+        move_up(slot);
     }
 }
 
