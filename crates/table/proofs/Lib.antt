@@ -1,3 +1,2 @@
-mod Appended
 pub mod Columns
 pub mod Places

@@ -6,7 +6,7 @@ use crate::texts::Text;
 /// What stands between two fields.
 const COMMA: &[u8] = b",";
 /// What ends a row.
-const ROW_END: &[u8] = b"\r\n";
+pub(crate) const ROW_END: &[u8] = b"\r\n";
 
 impl Text for &[Field] {
     ghost text = { λ fields. row fields.now };
