@@ -256,7 +256,8 @@ accounted bs q o n =
     sum_by (λ (v : Bearer). length v.waiting) bs + length q + length o + n.delivered + n.bearer_full + n.queue_full + n.discarded
 
 -- BOUNDED MEMORY. Once configured, after every call, the poll list has no more entries than the board shows bearers, the queue no more than S packets, and
--- at most sixteen numbers are out; as many packets are numbered as are somewhere; and at most 1,000,000,000 are numbered, and as many periods closed.
+-- at most sixteen numbers are out; as many packets are somewhere as are numbered; and at most 1,000,000,000 packets are numbered, and no more periods closed
+-- than that.
 pub record Within (s : RawSettings) (x : Core) : Type 0 where
   pub listed : length x.listed ≤ length x.bearers
   pub queue : length x.queue ≤ s.size

@@ -4,7 +4,7 @@ ghost use Rattle.std.specs.List.{slice_get};
 use crate::cursors::Cursor;
 use std::marker::Model;
 
-/// A queue in slots of its own, for where nobody lends it any: it holds `MOST` elements. Contracts see the elements.
+/// A queue in slots of its own, for where nobody lends it any: at most `MOST` elements. Contracts see the elements.
 #[derive(Drop)]
 pub struct Queue<T: Copy, const MOST: usize> {
     slots: [T; MOST],
