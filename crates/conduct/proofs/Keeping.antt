@@ -2,13 +2,13 @@
 use Rattle.std.proofs.Common.{◌≡◌, ℕ, List, [], ◌∷◌, map, refl, sym, ap, ◌∙◌}
 use Rattle.board.specs.Bearers.{Bearer}
 use Rattle.machine.specs.declared.calls.Call.{Call}
-use Rattle.machine.specs.State.{State, idle, running, Batches}
+use Rattle.machine.specs.State.{State, idle, running, Batches, out_of}
 use Rattle.machine.specs.Ledger.{Ledger, ledger, depths_of}
 use Rattle.machine.specs.Laws.{Bounded, Always, Law}
 use Rattle.machine.proofs.Runs.{at_end}
 use Rattle.machine.proofs.Agreement.{TallyState, Agreeing, starts_agreeing, keeps_agreeing}
 use Rattle.receiver.specs.declared.receipts.Receipt.{Receipt}
-use Rattle.conduct.specs.Lists.{after_list, conducted, made, out_of, unspent, receipts_of, Keeps}
+use Rattle.conduct.specs.Lists.{after_list, conducted, made, unspent, receipts_of, Keeps}
 
 -- the receipts of what is out have its numbers
 numbered : (ns : List ℕ) → map (λ (r : Receipt). r.number) (map unspent ns) ≡ ns

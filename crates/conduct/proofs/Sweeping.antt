@@ -1,40 +1,31 @@
 -- A sweep of the receipts of all that is out leaves none.
-use Rattle.std.proofs.Common.{◌≡◌, ℕ, ◌≤◌, Bool, true, false, cond, List, [], ◌∷◌, ◌++◌, map, reverse, is_ok, Err, refl, sym, ap, ◌∙◌, arith}
+use Rattle.std.proofs.Common.{◌≡◌, ℕ, true, cond, List, [], ◌∷◌, ◌++◌, map, reverse, is_ok, Err, refl, sym, ap, ◌∙◌, arith}
+use mathlib.Core.List.{reverse-cons}
 use Rattle.std.proofs.lemmas.List.{map_push, reverse-append}
 use Rattle.machine.specs.declared.calls.Call.TheVariants.{Discard}
 use Rattle.machine.specs.declared.refusals.Refusal.{Refusal}
-use Rattle.machine.specs.State.{State, Batches}
+use Rattle.machine.specs.State.{State, Batches, out_of}
 use Rattle.machine.specs.Machine.{call}
 use Rattle.machine.specs.Numbers.{holds, times, without}
-use Rattle.machine.proofs.Loads.{free_times}
+use Rattle.machine.proofs.Loads.{counted_held}
+use Rattle.machine.proofs.Moved.{happens}
+use Rattle.machine.proofs.OneCall.{outs, call_refused, discard_done}
 use Rattle.machine.proofs.Basics.{times-append, times-without}
 use Rattle.receiver.specs.declared.receipts.Receipt.{Receipt}
 use Rattle.receiver.specs.Receivers.{Receiving}
-use Rattle.conduct.specs.Lists.{out_of, receipts_of, unspent}
+use Rattle.conduct.specs.Lists.{receipts_of, unspent}
 use Rattle.conduct.specs.Sweeps.{swept, Sweeps}
-use Rattle.conduct.proofs.Out.{call_out, call_refused, discard_done}
-
--- a number that is counted is held
-counted_held : (n : ℕ) (ns : List ℕ) → 1 ≤ times n ns → holds n ns ≡ true
-counted_held n ns h = by (holds n ns) refl
-  where
-    by : (b : Bool) → holds n ns ≡ b → holds n ns ≡ true
-    by true e = e
-    by false e = absurd (omega (arith, free_times n ns e))
 
 -- turned round, numbers stand as often, and receipts are those of the numbers turned round
-reversed : {A : Type 0} (x : A) (xs : List A) → reverse (x ∷ xs) ≡ reverse xs ++ x ∷ []
-reversed x xs = reverse-append (x ∷ []) xs
-
 times-reverse : (n : ℕ) (ns : List ℕ) → times n (reverse ns) ≡ times n ns
 times-reverse n [] = refl
-times-reverse n (m ∷ ms) = rw (reversed m ms) (omega (arith, times-append n (reverse ms) (m ∷ []), times-reverse n ms))
+times-reverse n (m ∷ ms) = rw (reverse-cons m ms) (omega (arith, times-append n (reverse ms) (m ∷ []), times-reverse n ms))
 
 reverse_unspent : (ns : List ℕ) → reverse (map unspent ns) ≡ map unspent (reverse ns)
 reverse_unspent [] = refl
 reverse_unspent (n ∷ ns) =
-    reversed (unspent n) (map unspent ns) ∙ ap (λ rs. rs ++ unspent n ∷ []) (reverse_unspent ns) ∙ sym (map_push unspent (reverse ns) n)
-    ∙ ap (map unspent) (sym (reversed n ns))
+    reverse-cons (unspent n) (map unspent ns) ∙ ap (λ rs. rs ++ unspent n ∷ []) (reverse_unspent ns) ∙ sym (map_push unspent (reverse ns) n)
+    ∙ ap (map unspent) (sym (reverse-cons n ns))
 
 module _ (p : Batches) where
   -- numbers that are out as often as they come, in whatever order
@@ -43,7 +34,7 @@ module _ (p : Batches) where
   none_left (n ∷ ns) t h =
       let held : holds n (out_of t) ≡ true = counted_held n (out_of t) (grind (arith, h n)) in
       let done = discard_done p n t held in
-      let out : out_of (call p (Discard n) t).1 ≡ without n (out_of t) = call_out p (Discard n) t ∙ ap (λ r. cond (is_ok r) (without n (out_of t)) (out_of t)) done in
+      let out : out_of (call p (Discard n) t).1 ≡ without n (out_of t) = outs (happens p (Discard n) t) ∙ ap (λ r. cond (is_ok r) (without n (out_of t)) (out_of t)) done in
       rw done (none_left ns (call p (Discard n) t).1 (λ m. rw out (omega (arith, h m, times-without m n (out_of t) held))))
 
   pub all_spent : (t : State) (rs : List Receipt) → rs ≡ receipts_of t → (swept p t (reverse rs)).1 ≡ []

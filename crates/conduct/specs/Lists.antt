@@ -5,7 +5,7 @@ use Rattle.machine.specs.declared.answers.Answer.{Answer}
 use Rattle.machine.specs.declared.calls.Call.{Call}
 use Rattle.machine.specs.declared.calls.Call.TheVariants.{Finish, Discard}
 use Rattle.machine.specs.declared.refusals.Refusal.{Refusal}
-use Rattle.machine.specs.State.{State, idle, running, Batches}
+use Rattle.machine.specs.State.{State, idle, Batches, out_of}
 use Rattle.machine.specs.Machine.{call}
 use Rattle.machine.specs.Trace.{Entry, trace, end_of}
 use Rattle.machine.specs.Laws.{Law}
@@ -14,15 +14,11 @@ use Rattle.receiver.specs.declared.receipts.Receipt.{Receipt}
 use Rattle.conduct.specs.declared.replies.Reply.{Reply}
 use Rattle.conduct.specs.declared.replies.Reply.TheVariants.{Accepted, Refused, NoReceipt}
 
--- the numbers that are out: of each of them, and of no other, a receipt is held
-abbrev pub out_of : State → List ℕ
-out_of (idle bs) = []
-out_of (running s x) = x.out
-
--- the receipt of a number, before it is spent; those of all that is out
+-- the receipt of a number, before it is spent
 abbrev pub unspent : ℕ → Receipt
 unspent n = record { number = n; spent = false }
 
+-- those of the numbers that are out: of each of them a receipt is held, and of no other
 abbrev pub receipts_of : State → List Receipt
 receipts_of t = map unspent (out_of t)
 

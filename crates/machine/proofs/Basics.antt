@@ -1,5 +1,6 @@
 -- Small facts about tests, lists and changed bearers.
-use Rattle.std.proofs.Common.{◌≡◌, ℕ, zero, suc, ◌<◌, ◌≤◌, Bool, true, false, cond, eqb, ltb, List, [], ◌∷◌, map, length, set, sym, refl, ap, ◌∙◌, subst, ⊎_elim, arith, get_or, ◌+◌, ◌++◌}
+use Rattle.std.proofs.Common.{◌≡◌, ℕ, zero, suc, ◌<◌, ◌≤◌, Bool, true, false, cond, eqb, ltb, List, [], ◌∷◌, map, length, drop, set, Some, sym, refl, ap, ◌∙◌, subst, ⊎_elim, arith, get_or, ◌+◌, ◌++◌}
+use Rattle.std.specs.List.{slice_get}
 use Rattle.std.proofs.lemmas.List.{set-get_or, get_or-set_other, get_or_past, nil_from_length, get_or-set_same, set_past}
 use Rattle.std.proofs.lemmas.Bool.{cases_lt, cases_eq, ltb-false}
 use Rattle.board.specs.Bearers.{Bearer, absent, bearer_of, changed}
@@ -47,6 +48,11 @@ pub at_mapped : (P : Bearer → Type 0) (f : Bearer → Bearer) (bs : List Beare
 at_mapped P f [] b none there = none
 at_mapped P f (x ∷ bs) zero none there = there
 at_mapped P f (x ∷ bs) (suc b) none there = at_mapped P f bs b none there
+
+-- a list by its first number
+pub front : (n : ℕ) (c : List ℕ) → slice_get c 0 ≡ Some n → c ≡ n ∷ drop 1 c
+front n [] e = cc
+front n (m ∷ c) e = cc
 
 -- nothing is left
 pub none_left : {A : Type 0} (xs : List A) → ltb 0 (length xs) ≡ false → xs ≡ []

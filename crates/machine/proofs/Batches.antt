@@ -1,5 +1,5 @@
 -- Bounded batches: each packet that is taken is paid for by what the grant has left.
-use Rattle.std.proofs.Common.{◌≡◌, ℕ, ◌+◌, ◌≤◌, List, [], ◌∷◌, ◌++◌, length, Some, None, Ok, Option, Result, sym, ap, ◌∙◌, arith}
+use Rattle.std.proofs.Common.{◌≡◌, ℕ, ◌+◌, ◌≤◌, List, [], ◌∷◌, ◌++◌, length, Some, None, Ok, Option, Result, sym, ap, ◌∙◌, subst, arith}
 use Rattle.std.proofs.lemmas.List.{length-map}
 use Rattle.std.proofs.lemmas.List.Sums.{sum_by-cons}
 use Rattle.board.specs.declared.packets.Packet.{Packet}
@@ -11,7 +11,7 @@ use Rattle.machine.specs.declared.calls.RawSettings.{RawSettings}
 use Rattle.machine.specs.declared.refusals.Refusal.{Refusal}
 use Rattle.machine.specs.State.{Grant, Core, State, idle, running, Batches, waits}
 use Rattle.machine.specs.Trace.{Entry, trace, end_of}
-use Rattle.machine.specs.Ledger.{Ledger, column, progress_in, depths_of, ledger}
+use Rattle.machine.specs.Ledger.{Ledger, column, progress_in, depths_of}
 use Rattle.machine.specs.Laws.{Always, begun_by, begun_on, begins, taken_by, taken_on, takes, BoundedBatches}
 use Rattle.machine.proofs.Agreement.{TallyState, Agreeing, starts_agreeing, keeps_agreeing}
 use Rattle.machine.proofs.Moved.{Move, begun, emptied, taken, rescheduled, completed, Happens, refused, asked_idle, configured, moved}
@@ -36,7 +36,7 @@ module _ (p : Batches) where
   move_takes : (s : RawSettings) (x y : Core) (c : Call) (a : Answer) → Move s p x c a y → ((b : ℕ) → begun_by b (progress_in a) ≡ 0) →
       taken_by (progress_in a) + left_to y.grant ≤ left_to x.grant
   move_takes s x _ _ _ (begun {b = b} e i u h) none = absurd (grind (arith, none b))
-  move_takes s x _ _ _ (emptied e w) none = omega (arith, ap left_to e)
+  move_takes s x _ _ _ (emptied e w n) none = omega (arith, ap left_to e)
   move_takes s x _ _ _ (taken e w n less r) none = omega (arith, ap left_to e)
   move_takes s x _ _ _ (rescheduled e) none = omega (arith, ap left_to e)
   move_takes s x _ _ _ (completed e w r) none = omega (arith, ap left_to e)
@@ -62,27 +62,17 @@ module _ (p : Batches) where
     left : left_in u ≡ q
     quota : q ≡ p.quota b (length (column l b))
 
-  grant_begins : (depths : List ℕ) (t u : State) (c : Call) (r : Result Answer Refusal) (l : Ledger) (b q : ℕ) →
-      TallyState depths t l → Happens p t c r u → r ≡ Ok (Stepped (Begun b q)) → Granted l u b q
-  grant_begins depths _ _ _ _ l b q i refused e = cc e
-  grant_begins depths _ _ _ _ l b q i asked_idle e = cc e
-  grant_begins depths _ _ _ _ l b q i (configured ranges empty share) e = cc e
-  grant_begins depths _ _ _ _ l b q i (moved {s = s} {x = x} {y = y} m _) e = record {
-    left = ap left_to (gate_unmoved s x y).grant ∙ (by m (cc e)).0;
-    quota = (by m (cc e)).1;
+  grant_begins : {t u : State} {c : Call} {l : Ledger} {b q : ℕ} (depths : List ℕ) → TallyState depths t l → Happens p t c (Ok (Stepped (Begun b q))) u →
+      Granted l u b q
+  grant_begins depths i (moved {s = s} {x = x} {y = y} (begun {b = b} e w g h) _) = record {
+    left = ap left_to (gate_unmoved s x y).grant;
+    quota = ap (p.quota b) (sym (length-map (waits x.bearers b) (λ (k : Packet). k.number)) ∙ ap length (column_is i b));
   }
-    where
-      by : {c : Call} {a : Answer} {z : Core} → Move s p x c a z → a ≡ Stepped (Begun b q) → (left_to z.grant ≡ q) × (q ≡ p.quota b (length (column l b)))
-      by (begun {b = d} g v w h) e =
-          let same : d ≡ b = cc e in
-          let n : length (column l b) ≡ length (waits x.bearers b) = ap length (sym (column_is i b)) ∙ length-map (waits x.bearers b) (λ (k : Packet). k.number) in
-          (cc e, cc (e, same, n))
-      by _ e = cc e
 
 pub bounded_batches : Always BoundedBatches
 bounded_batches p _ bs cs before stretch after e b q h a none =
     let k = each_call p (Agreeing p bs) (keeps_agreeing p bs) (idle bs) (starts_agreeing p bs) cs before (stretch ++ after) e h in
     let r = reached p (Agreeing p bs) (keeps_agreeing p bs) (idle bs) (starts_agreeing p bs) cs before (e ∷ (stretch ++ after)) h in
     let f = starts_with p r.1 (end_of (idle bs) before) e (stretch ++ after) r.2 in
-    let g = grant_begins p (depths_of bs) e.before e.after e.asked e.answered (ledger bs before) b q k.held k.comes a in
+    let g = grant_begins p (depths_of bs) k.held (subst (λ d. Happens p e.before e.asked d e.after) a k.comes) in
     record { quota = g.quota; bound = omega (arith, stretch_takes p stretch after f.calls e.after f.goes_on none, g.left) }

@@ -124,7 +124,7 @@ module _ (s : RawSettings) (p : Batches) (x : Core) (t : CountedCore s x) where
   move_counted _ _ _ (signalled {b = b} {n = n} {t = tag} l r h) k =
       one_more t b (λ v. after_disarm (behind (next_packet n tag x) v)) _ l k.numbered (closes_few s _ k.closed) (length-append (waits x.bearers b) _)
   move_counted _ _ _ (begun e i u z) k = reclosed t _ (closes_few s _ k.closed)
-  move_counted _ _ _ (emptied {g = g} e w) k = reshown t g.bearer after_take (cc w)
+  move_counted _ _ _ (emptied {g = g} e w n) k = reshown t g.bearer after_take (cc w)
   move_counted _ _ _ (taken {g = g} {q = q} {rest = rest} {room = room} e w n less r) k =
       one_taken t g.bearer q rest _ w (closes_few s _ k.closed) room r
   move_counted _ _ _ (rescheduled e) k = t

@@ -8,6 +8,7 @@ pub mod Lines
 pub mod Listed
 pub mod Loads
 pub mod Moved
+pub mod OneCall
 pub mod Order
 pub mod Periods
 pub mod Places

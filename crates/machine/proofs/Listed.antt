@@ -68,7 +68,7 @@ module _ (s : RawSettings) (p : Batches) (x : Core) where
   move_shown h _ _ _ (signalled l r e) = λ c i.
       let k : length x.bearers ≤ c = omega (arith, length-set {A = Bearer}) in grind (arith, h c k, times-append)
   move_shown h _ _ _ (begun e i u z) = λ c k. omega (arith, h c k, ap (times c) i)
-  move_shown h _ _ _ (emptied e w) = λ c i. let k : length x.bearers ≤ c = omega (arith, length-set {A = Bearer}) in grind (arith, h c k)
+  move_shown h _ _ _ (emptied e w n) = λ c i. let k : length x.bearers ≤ c = omega (arith, length-set {A = Bearer}) in grind (arith, h c k)
   move_shown h _ _ _ (taken e w n less r) = λ c i. let k : length x.bearers ≤ c = omega (arith, length-set {A = Bearer}) in grind (arith, h c k)
   move_shown h _ _ _ (rescheduled e) = λ c i. grind (arith, h c i, times-append)
   move_shown h _ _ _ (completed {o = o} e w r) = λ c. cond_both o _ _ (λ (bs : List Bearer). length bs ≤ c → turns x.listed None c ≡ 0)

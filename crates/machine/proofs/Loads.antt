@@ -1,5 +1,6 @@
 -- How often a bearer is armed, listed or served, counted together; and the invariant of arming, signals, poll list and grant.
 use Rattle.std.proofs.Common.{◌≡◌, ℕ, ◌+◌, ◌<◌, ◌≤◌, Bool, true, false, cond, List, [], ◌∷◌, length, Option, refl, arith}
+use Rattle.std.proofs.lemmas.Bool.{true_from_ne_false}
 use Rattle.board.specs.Bearers.{Bearer, bearer_of, after_arm, after_disarm}
 use Rattle.machine.specs.State.{Grant, Core, State, idle, running, serves, busy, is_open}
 use Rattle.machine.specs.Numbers.{holds, times}
@@ -44,6 +45,9 @@ held_times n (h ∷ t) e = grind (arith, held_times n t)
 pub free_times : (n : ℕ) (l : List ℕ) → holds n l ≡ false → times n l ≡ 0
 free_times n [] e = refl
 free_times n (h ∷ t) e = grind (arith, free_times n t)
+
+pub counted_held : (n : ℕ) (l : List ℕ) → 1 ≤ times n l → holds n l ≡ true
+counted_held n l h = true_from_ne_false (holds n l) (λ e. absurd (omega (arith, h, free_times n l e)))
 
 pub busy_turns : (x : Core) (n : ℕ) → busy x n ≡ true → 1 ≤ turns x.listed x.grant n
 busy_turns x n e = grind (arith, held_times)

@@ -50,7 +50,7 @@ pub data Move (s : RawSettings) (p : Batches) (x : Core) : Call → Answer → C
   begun : {b : ℕ} {rest : List ℕ} → x.grant ≡ None → x.listed ≡ b ∷ rest → x.clock.used < s.limit → x.hold ≡ 0 →
       Move s p x Step (Stepped (Begun b (p.quota b (length (waits x.bearers b)))))
       (charge s 80 (record x { listed = rest; grant = Some (record { bearer = b; left = p.quota b (length (waits x.bearers b)) }) }))
-  emptied : {g : Grant} → x.grant ≡ Some g → waits x.bearers g.bearer ≡ [] →
+  emptied : {g : Grant} → x.grant ≡ Some g → waits x.bearers g.bearer ≡ [] → (g.left ≡ 0 → ⊥) →
       Move s p x Step (Stepped Empty) (left_with g 0 (taken_off g x))
   taken : {g : Grant} {q : Packet} {rest : List Packet} {m h : ℕ} {room : Bool} → x.grant ≡ Some g → waits x.bearers g.bearer ≡ q ∷ rest → (g.left ≡ 0 → ⊥) →
       m ≤ g.left - 1 → has_queue_room s x ≡ room → Move s p x Step (Stepped (Taken q.number room)) (took s g q m h room x)
@@ -159,7 +159,7 @@ module _ (s : RawSettings) (p : Batches) (x : Core) where
       (completed e (none_left _ h)) (completed e (none_left _ h)))
 
   take_moves : (g : Grant) (w : List Packet) → x.grant ≡ Some g → (g.left ≡ 0 → ⊥) → waits x.bearers g.bearer ≡ w → Moves Step (take_by s g (slice_get w 0) x)
-  take_moves g [] e n h = emptied e h
+  take_moves g [] e n h = emptied e h n
   take_moves g (q ∷ rest) e n h = tested (λ room. Takes room (high_marked s g (after room))) (has_queue_room s x) (marked true) (marked false)
     where
       Takes : Bool → Core → Type 0
@@ -243,3 +243,7 @@ pub happens : (p : Batches) (c : Call) (t : State) → Happens p t c (call p c t
 unfolding call
 happens p c (idle bs) = idle_comes p bs c
 happens p c (running s x) = running_comes s p x c
+
+-- of what is answered, and left
+pub happened : (p : Batches) (c : Call) (t : State) {r : Result Answer Refusal} {u : State} → (call p c t).0 ≡ r → (call p c t).1 ≡ u → Happens p t c r u
+happened p c t {u = u} e f = subst (λ r. Happens p t c r u) e (subst (Happens p t c (call p c t).0) f (happens p c t))

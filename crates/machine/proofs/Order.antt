@@ -19,7 +19,7 @@ use Rattle.machine.specs.Laws.{Always, TrueStep, Truly, TrueAnswers, fetched_by,
 use Rattle.machine.proofs.Lines.{Line, mine, line_to, line_push, line_middle, line_at, line_places, mine_rise}
 use Rattle.machine.proofs.Pushed.{told_keeps}
 use Rattle.machine.proofs.Agreement.{true_answers}
-use Rattle.machine.proofs.Basics.{at_set}
+use Rattle.machine.proofs.Basics.{at_set, front}
 use Rattle.machine.specs.Numbers.{holds}
 
 -- what holds of each column holds after one of them was set
@@ -27,10 +27,6 @@ each_column : (P : ℕ → List ℕ → Type 0) (cs : List (List ℕ)) (b : ℕ)
     ((d : ℕ) → (d ≡ b → ⊥) → P d (get_or cs d [])) → (d : ℕ) → P d (get_or (set cs b c) d [])
 each_column P cs b c h here there d =
     at_set (P d) cs b d c [] (λ e _. subst (λ i. P i c) (sym e) here) (λ past. there d (λ e. omega (arith, past e, h)))
-
-front : (n : ℕ) (c : List ℕ) → slice_get c 0 ≡ Some n → c ≡ n ∷ drop 1 c
-front n [] e = cc
-front n (m ∷ c) e = cc
 
 neither : (t : Bool) → cond {A = List ℕ} t [] [] ≡ []
 neither t = cond_both t [] [] (λ l. l ≡ []) (λ _. refl) (λ _. refl)

@@ -7,7 +7,7 @@ use Rattle.machine.specs.declared.refusals.Refusal.{Refusal}
 use Rattle.machine.specs.State.{Core, State, idle, running, Batches}
 use Rattle.machine.specs.Trace.{Entry, trace, end_of, Throughout}
 use Rattle.machine.specs.Laws.{OnceRunning, Always, RefusalsLeave}
-use Rattle.machine.proofs.Moved.{Happens, happens, refused, asked_idle, configured, moved}
+use Rattle.machine.proofs.Moved.{Happens, happens, refused}
 
 -- one call, and what it came to
 abbrev pub made : State → Call → Result Answer Refusal → State → Entry
@@ -70,13 +70,10 @@ if_running Q f (idle bs) q = tt
 if_running Q f (running s x) q = f s x q
 
 -- a refused call leaves all as it was
-pub refused_same : (p : Batches) (t u : State) (c : Call) (r : Result Answer Refusal) (q : Refusal) → Happens p t c r u → r ≡ Err q → u ≡ t
-refused_same _ _ _ _ _ _ refused e = refl
-refused_same _ _ _ _ _ _ asked_idle e = refl
-refused_same _ _ _ _ _ _ (configured ranges empty share) e = cc e
-refused_same _ _ _ _ _ _ (moved m _) e = cc e
+pub refused_same : {p : Batches} {t u : State} {c : Call} {q : Refusal} → Happens p t c (Err q) u → u ≡ t
+refused_same refused = refl
 
 pub refusals_leave : Always RefusalsLeave
 refusals_leave p _ bs cs before after e r h a =
     let k = each_call p (λ _ _. Unit {0}) (λ _ _ _ _ _ _ _. tt) (idle bs) tt cs before after e h in
-    refused_same p e.before e.after e.asked e.answered r k.comes a
+    refused_same (subst (λ q. Happens p e.before e.asked q e.after) a k.comes)

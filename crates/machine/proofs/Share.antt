@@ -122,7 +122,7 @@ module _ (p : Batches) (start : List Bearer) where
         i.few (omega (arith, i.few, below_limit b e))
     move_funded _ _ _ (begun {b = b} g e u z) n =
         charged x i n x.bearers _ i.cheap 80 (quota_due b _) (omega (arith, quota_due b (length (waits x.bearers b))))
-    move_funded _ _ _ (emptied {g = g} e w) n = kept x i n _ _ (cheap_changed x.bearers g.bearer after_take refl i.cheap) (omega arith)
+    move_funded _ _ _ (emptied {g = g} e w some) n = kept x i n _ _ (cheap_changed x.bearers g.bearer after_take refl i.cheap) (omega arith)
     move_funded _ _ _ (taken {g = g} {q = q} {m = m} e w some less r) n =
         charged x i n _ _ (cheap_changed x.bearers g.bearer after_take refl i.cheap) ((bearer_of x.bearers g.bearer).cost + cost_of_length q.length)
         (omega (arith, i.few, one_fewer g m e some less))
@@ -205,20 +205,12 @@ pub share : Always Share
 share p bounded bs cs = if_running (Fair p bs (trace p (idle bs) cs)) (λ s x i. record { some = i.some; each = i.accounts.before }) _ (fair_end p bounded bs cs).1
 
 -- what tell answers of periods
-told_periods : (p : Batches) (bs : List Bearer) (es : List Entry) (t u : State) (c : Call) (a : Result Answer Refusal) (r : Report) →
-    Fair p bs es t → Happens p t c a u → a ≡ Ok (Told r) → TruePeriods es t r
-told_periods p bs es _ _ _ _ r i refused e = cc e
-told_periods p bs es _ _ _ _ r i asked_idle e = (cc e, cc e)
-told_periods p bs es _ _ _ _ r i (configured _ _ _) e = cc e
-told_periods p bs es _ _ _ _ r i (moved {s = s} {x = x} m _) e = by m (cc e)
-  where
-    by : {c : Call} {a : Answer} {y : Core} → Move s p x c a y → a ≡ Told r → TruePeriods es (running s x) r
-    by told e =
-        let same : r ≡ record { counts = x.counts; closed = x.clock.closed; last = x.clock.last } = cc e in
-        rw same (refl, i.accounts.recorded)
-    by _ e = cc e
+told_periods : (p : Batches) (bs : List Bearer) (es : List Entry) {t u : State} {c : Call} {r : Report} → Fair p bs es t → Happens p t c (Ok (Told r)) u →
+    TruePeriods es t r
+told_periods p bs es i asked_idle = (refl, refl)
+told_periods p bs es i (moved told _) = (refl, i.accounts.recorded)
 
 pub true_records : Always TrueRecords
 true_records p bounded bs cs before after e r h a =
     let k = fair_before p bounded bs cs before after e h in
-    told_periods p bs before e.before e.after e.asked e.answered r k.held.1 k.comes a
+    told_periods p bs before k.held.1 (subst (λ d. Happens p e.before e.asked d e.after) a k.comes)

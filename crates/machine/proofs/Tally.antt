@@ -191,7 +191,7 @@ module _ (s : RawSettings) (p : Batches) (x : Core) (depths : List ℕ) (l : Led
     out = t.out;
     counts = t.counts;
   }
-  move_tally _ _ _ (emptied {g = g} e w) =
+  move_tally _ _ _ (emptied {g = g} e w n) =
       regranted (reshown t g.bearer after_take (cc w) refl) (Some (record { bearer = g.bearer; left = 0 })) (serves_last g e)
   move_tally _ _ y (taken {g = g} {q = q} {rest = rest} {m = m} {room = room} e w n less r) =
       let last = serves_last g e in
@@ -226,7 +226,7 @@ module _ (s : RawSettings) (p : Batches) (x : Core) (depths : List ℕ) (l : Led
   move_true _ _ _ (stored {b = b} {n = n} {t = tag} i r h) = arrived_true b n tag true i r
   move_true _ _ _ (signalled {b = b} {n = n} {t = tag} i r h) = arrived_true b n tag true i r
   move_true _ _ _ (begun e i u h) = tt
-  move_true _ _ _ (emptied e w) = tt
+  move_true _ _ _ (emptied e w n) = tt
   move_true _ _ _ (taken {g = g} {q = q} e w n less r) = (
     ap (λ k. slice_get k 0) (ap (column l) (sym (serves_last g e)) ∙ sym (column_is t g.bearer) ∙ ap numbers w),
     sym (queue_room_is t ∙ r),

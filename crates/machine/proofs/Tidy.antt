@@ -94,7 +94,7 @@ module _ (s : RawSettings) (p : Batches) (x : Core) (t : TidyCore (is_open s x) 
   move_tidy _ _ _ (signalled {b = b} {n = n} {t = tag} l r h) = heard_tidy t b (behind (next_packet n tag x)) l (cc ((t.calm b).quiet, h))
   move_tidy _ _ _ (begun {b = b} {rest = rest} e i u h) = relisted t rest _
       (λ c. omega (arith, ap (times c) i, ap {B = ℕ} (λ (o : Option Grant). cond (serves o c) 1 0) e))
-  move_tidy _ _ _ (emptied {g = g} e w) = taken_tidy g (record { bearer = g.bearer; left = 0 }) e refl
+  move_tidy _ _ _ (emptied {g = g} e w n) = taken_tidy g (record { bearer = g.bearer; left = 0 }) e refl
   move_tidy _ _ _ (taken {g = g} {m = m} e w n less r) = taken_tidy g (record { bearer = g.bearer; left = m }) e refl
   move_tidy _ _ _ (rescheduled {g = g} e) = relisted t (x.listed ++ g.bearer ∷ []) None
       (λ c. omega (arith, times-append c x.listed (g.bearer ∷ []), ap {B = ℕ} (λ (o : Option Grant). cond (serves o c) 1 0) e))

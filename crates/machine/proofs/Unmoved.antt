@@ -2,7 +2,7 @@
 use Rattle.std.proofs.Common.{◌≡◌, ℕ, Bool, false, List, [], ◌∷◌, ◌++◌, map, length, refl, ap, ◌∙◌, append_assoc, append-nil, sym}
 use Rattle.std.proofs.Math.Seq.{map-set_same}
 use Rattle.std.proofs.Math.ListN.{get_or-map}
-use Rattle.std.proofs.lemmas.Bool.{cond_both}
+use Rattle.std.proofs.lemmas.Bool.{cond_both, cond-true, cond-false}
 use Rattle.board.specs.Bearers.{Bearer, absent, bearer_of, changed, any_waiting, after_arm, after_disarm}
 use Rattle.machine.specs.declared.calls.RawSettings.{RawSettings}
 use Rattle.machine.specs.State.{Core, waits, busy, is_open}
@@ -106,3 +106,11 @@ gate_unmoved s x y =
     cond_both (is_open s x) _ _ (Unmoved y)
     (λ _. cond_both (is_open s y) _ _ (Unmoved y) (λ _. unmoved_same y) (λ _. unmoved_shut y))
     (λ _. cond_both (is_open s y) _ _ (Unmoved y) (λ _. unmoved_opened y) (λ _. unmoved_same y))
+
+-- where it is to stay as it is, there is nothing to set
+pub gate_same : (s : RawSettings) (x y : Core) → is_open s y ≡ is_open s x → y ≡ set_gate s x y
+unfolding set_gate
+gate_same s x y e =
+    cond_both (is_open s x) _ _ (λ z. y ≡ z)
+    (λ o. sym (cond-true (is_open s y) _ _ (e ∙ o)))
+    (λ o. sym (cond-false (is_open s y) _ _ (e ∙ o)))

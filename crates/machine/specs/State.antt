@@ -1,5 +1,5 @@
 -- What a receiver holds.
-use Rattle.std.specs.Prelude.{ℕ, Bool, false, ◌&&◌, ◌||◌, List, Some, None, Option, ◌==◌, nat_lt}
+use Rattle.std.specs.Prelude.{ℕ, Bool, false, ◌&&◌, ◌||◌, List, [], Some, None, Option, ◌==◌, nat_lt}
 use Rattle.board.specs.declared.packets.Packet.{Packet}
 use Rattle.board.specs.Bearers.{Bearer, bearer_of}
 use Rattle.machine.specs.declared.answers.Counts.{Counts}
@@ -35,6 +35,11 @@ pub record Core : Type 0 where
 pub data State : Type 0 where
   idle : List Bearer → State
   running : RawSettings → Core → State
+
+-- the numbers that are out
+abbrev pub out_of : State → List ℕ
+out_of (idle bs) = []
+out_of (running s x) = x.out
 
 -- what a batch policy means: its quota for a bearer and the packets waiting there, and its greatest batch
 pub record Batches : Type 0 where

@@ -13,12 +13,13 @@ use Rattle.machine.specs.Moves.{set_gate}
 use Rattle.machine.specs.State.{Core, State, running, Batches, is_open}
 use Rattle.machine.specs.Calls.{arrive, work, fetch, finish, discard, tell}
 use Rattle.machine.specs.Machine.{unless, arrive_checks, step_checks, work_checks, fetch_checks, out_checks, step_by, checked, running_call, call}
-use Rattle.machine.proofs.Kept.{Kept, KeptState, keeps}
+use Rattle.machine.proofs.Kept.{Kept, call_keeps}
+use Rattle.machine.proofs.Moved.{Happens, happened}
+use Rattle.machine.proofs.OneCall.{same_bearers}
 use Rattle.receiver.specs.declared.settings.Settings.{Settings}
 use Rattle.receiver.specs.Receivers.{Receiving, batches, answer_to, after, answered}
 use Rattle.receiver.specs.Settings.{raw}
 use Rattle.receiver.specs.Sound.{state_of, Sound}
-use Rattle.receiver.proofs.Sizes.{call_size}
 
 -- a call on a state comes to an answer and another state
 abbrev pub Comes : Batches → Call → State → Result Answer Refusal → State → Type 0
@@ -66,8 +67,9 @@ settled {p = p} {x = x} e k = subst (λ (q : Option Settings). Sound p q x) e k
 pub sound : {p : Batches} → Bounded p → (c : Call) (x : Core) {s : Settings} {o : Option Settings} {y : Core} {r : Result Answer Refusal} → o ≡ Some s → Sound p o x → Comes p c (running (raw s) x) r (running (raw s) y) → Sound p o y
 sound {p = p} b c x {s = s} {y = y} {r = r} e k comes =
     let had = settled e k in
-    let kept : Kept p (raw s) y = subst (KeptState p) (ap (λ (d : Result Answer Refusal × State). d.1) comes) (keeps p b c (running (raw s) x) had.0) in
-    subst (λ (q : Option Settings). Sound p q y) (sym e) (kept, omega (arith, had.1, call_size p (raw s) x y c r comes))
+    let h : Happens p (running (raw s) x) c r (running (raw s) y) = happened p c (running (raw s) x) (ap (λ (d : Result Answer Refusal × State). d.0) comes) (ap (λ (d : Result Answer Refusal × State). d.1) comes) in
+    let kept : Kept p (raw s) y = call_keeps p b (running (raw s) x) (running (raw s) y) c r had.0 h in
+    subst (λ (q : Option Settings). Sound p q y) (sym e) (kept, omega (arith, had.1, same_bearers h))
 
 -- the gate is set by what it was
 pub gated : (s : RawSettings) (x z' : Core) {w : Bool} {y z : Core} → ((v : Core) → is_open s v ≡ w → z ≡ set_gate s v y) → w ≡ is_open s x → y ≡ z' → z ≡ set_gate s x z'

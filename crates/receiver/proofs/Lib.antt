@@ -4,6 +4,5 @@ pub mod Configured
 pub mod Each
 pub mod Roomy
 pub mod Searches
-pub mod Sizes
 pub mod Surveys
 pub mod Unconfigured

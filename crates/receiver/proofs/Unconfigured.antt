@@ -1,6 +1,6 @@
 -- The calls that answer before the receiver is configured, too.
 use Rattle.std.proofs.Common.{◌≡◌, ◌≤◌, ℕ, [], Some, None, Ok, Err, Option, refl, ap, sym, ◌∙◌}
-use Rattle.std.proofs.lemmas.Bool.{cond_both, cond-true, cond-false}
+use Rattle.std.proofs.lemmas.Bool.{cond_both}
 use Rattle.machine.specs.declared.answers.Answer.{Answer}
 use Rattle.machine.specs.declared.calls.Call.{Call}
 use Rattle.machine.specs.declared.calls.Call.TheVariants.{Tell}
@@ -8,25 +8,17 @@ use Rattle.machine.specs.declared.calls.RawSettings.{RawSettings}
 use Rattle.machine.specs.declared.refusals.Refusal.{Refusal}
 use Rattle.machine.specs.declared.refusals.Refusal.TheVariants.{NotOut}
 use Rattle.machine.specs.Checks.{first_refusal}
-use Rattle.machine.specs.Moves.{set_gate}
 use Rattle.machine.specs.Numbers.{holds}
 use Rattle.machine.specs.State.{Core, idle, Batches, is_open}
 use Rattle.machine.specs.Calls.{tell}
 use Rattle.machine.specs.Machine.{out_checks, checked, running_call, call}
+use Rattle.machine.proofs.Unmoved.{gate_same}
 use Rattle.receiver.specs.declared.settings.Settings.{Settings}
 use Rattle.receiver.specs.Settings.{raw}
 use Rattle.receiver.specs.Empty.{empty_over}
 use Rattle.receiver.specs.Sound.{state_of, Sound}
 use Rattle.receiver.specs.Receivers.{Receiving, batches, answer_to, after}
 use Rattle.receiver.proofs.Called.{Comes, comes_refused, comes_accepted, answers, shows, bounded, sound}
-
--- a move that leaves the gate's state alone needs no setting of the gate
-gate_same : (s : RawSettings) (x y : Core) → is_open s y ≡ is_open s x → y ≡ set_gate s x y
-unfolding set_gate
-gate_same s x y e =
-    cond_both (is_open s x) _ _ (λ z. y ≡ z)
-    (λ o. sym (cond-true (is_open s y) _ _ (e ∙ o)))
-    (λ o. sym (cond-false (is_open s y) _ _ (e ∙ o)))
 
 module _ (p : Batches) (o : Option Settings) (x : Core) where
   pub tells : Sound p o x → Comes p Tell (state_of o x) (Ok (tell x).0) (state_of o x)

@@ -18,6 +18,7 @@ use Rattle.machine.specs.Ledger.{Ledger, Columns, nothing, column, put_in, taken
 use Rattle.machine.specs.Laws.{Bounded, closed_in, TrueAnswer, Truly}
 use Rattle.machine.specs.Numbers.{holds}
 use Rattle.machine.proofs.Agreement.{true_answers}
+use Rattle.machine.proofs.Basics.{front}
 use Rattle.machine.proofs.Pushed.{told_keeps}
 use Rattle.replay.specs.declared.fates.Decision.{Decision}
 use Rattle.replay.specs.declared.fates.Fallen.{Fallen}
@@ -74,10 +75,6 @@ settles_arrival false b l =
     settles (Some (record { number = l.next; fate = BearerFull })) l.columns (put_in false b l) (sym (append-nil l.columns.delivered)) refl
     (sym (append-nil l.columns.queue_full)) refl refl
 
-front_taken : (c : List ℕ) (n : ℕ) → slice_get c 0 ≡ Some n → take 1 c ≡ n ∷ []
-front_taken [] n h = cc h
-front_taken (m ∷ c) n h = cc h
-
 settles_taken : (room : Bool) (b n : ℕ) (k : Columns) → take 1 (get_or k.waiting b []) ≡ n ∷ [] →
     Settles (dropped (Stepped (Taken n room))) k (taken_from room b k)
 settles_taken true b n k h = settles_none k (taken_from true b k) refl refl refl
@@ -99,7 +96,7 @@ module _ (depths : List ℕ) (l : Ledger) where
   settles_step (Stepped Empty) t = settles_none l.columns l.columns refl refl refl
   settles_step (Stepped (Taken n room)) t =
       subst (λ r. Moves (dropped (Stepped (Taken n r))) (accepted depths Step (Stepped (Taken n room)) l)) (sym t.1)
-      (settles_taken (queue_room l) l.serving n l.columns (front_taken (column l l.serving) n t.0))
+      (settles_taken (queue_room l) l.serving n l.columns (ap (take 1) (front n (column l l.serving) t.0)))
   settles_step (Stepped Rescheduled) t = settles_none l.columns l.columns refl refl refl
   settles_step (Stepped Completed) t = settles_none l.columns l.columns refl refl refl
   settles_step _ t = absurd t

@@ -1,32 +1,28 @@
 -- A number that falls with each turn, so that a replay comes to a stop.
-use Rattle.std.proofs.Common.{◌≡◌, ℕ, ◌+◌, ◌-◌, ◌*◌, ◌<◌, ◌≤◌, min, Bool, true, false, cond, eqb, List, [], ◌∷◌, ◌++◌, length, drop, get_or, zero, suc, Some, None, Ok, Option, is_some, option_map, refl, sym, ap, ◌∙◌, subst, arith}
+use Rattle.std.proofs.Common.{◌≡◌, ℕ, ◌+◌, ◌-◌, ◌*◌, ◌<◌, ◌≤◌, min, Bool, true, false, cond, eqb, List, [], ◌∷◌, ◌++◌, length, drop, get_or, zero, suc, Some, None, Ok, Option, is_some, option_map, refl, ap, subst, arith}
 use Rattle.std.specs.List.{AllByRecursion}
-use Rattle.std.proofs.lemmas.Bool.{cond_both, leb-true, eqb-false}
+use Rattle.std.proofs.lemmas.Bool.{cond_both, leb-true}
 use Rattle.std.proofs.lemmas.List.{length-append}
 use Rattle.board.specs.declared.packets.Packet.{Packet}
-use Rattle.board.specs.Bearers.{Bearer, bearer_of, any_waiting}
+use Rattle.board.specs.Bearers.{Bearer, bearer_of}
 use Rattle.board.specs.Costs.{class_costs, length_class, cost_of_length}
 use Rattle.capture.specs.declared.packets.Captured.{Captured}
 use Rattle.machine.specs.declared.answers.Answer.{Answer}
-use Rattle.machine.specs.declared.answers.Answer.TheVariants.{Stepped}
-use Rattle.machine.specs.declared.answers.Progress.TheVariants.{Empty, Rescheduled, Completed}
 use Rattle.machine.specs.declared.calls.Call.{Call}
 use Rattle.machine.specs.declared.calls.Call.TheVariants.{Step, Work, Fetch}
-use Rattle.machine.specs.declared.refusals.Refusal.{Refusal}
-use Rattle.machine.specs.Calls.{serve}
-use Rattle.machine.specs.Checks.{first_refusal}
+use Rattle.machine.specs.declared.calls.RawSettings.{RawSettings}
 use Rattle.machine.specs.Examples.{standard}
 use Rattle.machine.specs.Laws.{Bounded}
-use Rattle.machine.specs.Machine.{unless, step_checks, step_by, call}
-use Rattle.machine.specs.Moves.{is_over, set_gate}
-use Rattle.machine.specs.State.{Clock, Grant, Core, running, Batches, waits}
-use Rattle.machine.proofs.Moved.{Move, signalled, begun, emptied, taken, rescheduled, completed, worked, fetched}
+use Rattle.machine.specs.Machine.{call}
+use Rattle.machine.specs.Moves.{is_over}
+use Rattle.machine.specs.State.{Clock, Grant, Core, running, Batches}
+use Rattle.machine.proofs.Moved.{Move, signalled, begun, emptied, taken, rescheduled, completed, worked, fetched, Happens, moved, happened}
 use Rattle.machine.proofs.Periods.{settled}
+use Rattle.machine.proofs.Unmoved.{gate_unmoved}
 use Rattle.replay.specs.Fit.{Fit}
 use Rattle.replay.specs.Stages.{Task, Stage, start, core, now, span, handed, turn, after}
 use Rattle.replay.proofs.Applies.{Applies, applies, arrives, finishes, steps, works, fetches, idles, ended, over, span_least}
-use Rattle.replay.proofs.Fits.{here, there, Goes, turn_goes}
-use Rattle.replay.proofs.OneCall.{left_by, came}
+use Rattle.replay.proofs.Fits.{here, there, runs, Goes, turn_goes}
 
 -- a grant with packets left has two steps at least to go, and one with none left its close
 abbrev pub granted : Option Grant → ℕ
@@ -79,26 +75,16 @@ falls_by (Work c) = c
 falls_by Fetch = 2
 falls_by _ = 0
 
--- a grant that closes does not answer that nothing was found, and an accepted call answers what it does
-closes_not : (b : Bool) (y z : Core) → (cond {A = Answer × Core} b (Stepped Rescheduled, y) (Stepped Completed, z)).0 ≡ Stepped Empty → ⊥
-closes_not true y z e = cc e
-closes_not false y z e = cc e
-
-done_by : (o : Option Refusal) (x : Core) (a b : Answer) (y : Core) → (unless o x (a, y)).0 ≡ Ok b → a ≡ b
-done_by None x a b y e = cc e
-done_by (Some r) x a b y e = cc e
-
 module _ (p : Batches) (x : Core) where
   abbrev Lighter : Call → Core → Type 0
   Lighter c y = load y + (falls_by c + 5 * time x.clock) ≤ load x + 5 * time y.clock
 
-  move_lighter : (c : Call) (a : Answer) (y : Core) → Move standard p x c a y →
-      ((g : Grant) → c ≡ Step → a ≡ Stepped Empty → x.grant ≡ Some g → g.left ≡ 0 → ⊥) → Lighter c y
-  move_lighter _ _ _ (signalled l r e) n = omega (arith, settled_time (record x.clock { elapsed = x.clock.elapsed + 60; used = x.clock.used + 60 }))
-  move_lighter _ _ _ (begun {b = b} e i u h) n =
+  move_lighter : (c : Call) (a : Answer) (y : Core) → Move standard p x c a y → Lighter c y
+  move_lighter _ _ _ (signalled l r e) = omega (arith, settled_time (record x.clock { elapsed = x.clock.elapsed + 60; used = x.clock.used + 60 }))
+  move_lighter _ _ _ (begun {b = b} e i u h) =
       omega (arith, ap granted e, granted_most, settled_time (record x.clock { elapsed = x.clock.elapsed + 80; used = x.clock.used + 80 }))
-  move_lighter _ _ _ (emptied {g = g} e w) n = omega (arith, granted_left x.grant g e (n g refl refl e))
-  move_lighter _ _ _ (taken {g = g} {q = q} {m = m} {room = room} e w some less r) n =
+  move_lighter _ _ _ (emptied {g = g} e w some) = omega (arith, granted_left x.grant g e some)
+  move_lighter _ _ _ (taken {g = g} {q = q} {m = m} {room = room} e w some less r) =
       let cost : ℕ = (bearer_of x.bearers g.bearer).cost + cost_of_length q.length in
       omega (
         arith,
@@ -108,33 +94,16 @@ module _ (p : Batches) (x : Core) where
         length_dear q.length,
         settled_time (record x.clock { elapsed = x.clock.elapsed + cost; used = x.clock.used + cost }),
       )
-  move_lighter _ _ _ (rescheduled {g = g} e) n = omega (arith, granted_some x.grant g e)
-  move_lighter _ _ _ (completed {g = g} e w r) n = omega (arith, granted_some x.grant g e)
-  move_lighter _ _ _ (worked {c = c} h) n = omega (arith, settled_time (record x.clock { elapsed = x.clock.elapsed + c; offered = x.clock.offered + c }))
-  move_lighter _ _ _ (fetched e) n = omega (arith, ap length e)
-  move_lighter _ _ _ _ n = omega arith
+  move_lighter _ _ _ (rescheduled {g = g} e) = omega (arith, granted_some x.grant g e)
+  move_lighter _ _ _ (completed {g = g} e w r) = omega (arith, granted_some x.grant g e)
+  move_lighter _ _ _ (worked {c = c} h) = omega (arith, settled_time (record x.clock { elapsed = x.clock.elapsed + c; offered = x.clock.offered + c }))
+  move_lighter _ _ _ (fetched e) = omega (arith, ap length e)
+  move_lighter _ _ _ _ = omega arith
 
-  -- a step that found nothing had packets left to its grant
-  serve_left : (g : Grant) → (serve standard g x).0 ≡ Stepped Empty → g.left ≡ 0 → ⊥
-  unfolding serve
-  serve_left g = cond_both (eqb g.left 0) _ _ (λ (d : Answer × Core). d.0 ≡ Stepped Empty → g.left ≡ 0 → ⊥)
-      (λ _ e. absurd (closes_not (any_waiting (waits x.bearers g.bearer)) _ _ e)) (λ n _. eqb-false g.left 0 n)
-
-  empty_left : (g : Grant) → (call p Step (running standard x)).0 ≡ Ok (Stepped Empty) → x.grant ≡ Some g → g.left ≡ 0 → ⊥
-  unfolding call
-  empty_left g e h = serve_left g (done_by (first_refusal (step_checks standard x (Some g))) x _ (Stepped Empty) _ (subst Empties h e))
-    where
-      Empties : Option Grant → Type 0
-      Empties o =
-          let d = step_by standard p o x in (unless (first_refusal (step_checks standard x o)) x (d.0, set_gate standard x d.1)).0 ≡ Ok (Stepped Empty)
-
-  call_lighter : (c : Call) (a : Answer) → (call p c (running standard x)).0 ≡ Ok a → Lighter c (left_by p standard x c)
-  call_lighter c a e =
-      let k = came p standard x c a e in
-      omega (arith, move_lighter c a k.left k.move found, ap granted k.gate.grant, ap length k.gate.queue, ap time k.gate.clock)
-    where
-      found : (g : Grant) → c ≡ Step → a ≡ Stepped Empty → x.grant ≡ Some g → g.left ≡ 0 → ⊥
-      found g s f h = empty_left g (sym (ap (λ d. (call p d (running standard x)).0) s) ∙ (e ∙ ap Ok f)) h
+  lighter : (c : Call) (a : Answer) (z : Core) {v : RawSettings} → Happens p (running standard x) c (Ok a) (running v z) → Lighter c z
+  lighter c a _ (moved {y = y} m _) =
+      let u = gate_unmoved standard x y in
+      omega (arith, move_lighter c a y m, ap granted u.grant, ap length u.queue, ap time u.clock)
 
 -- what counts beside the receiver
 abbrev has_task : Option Task → ℕ
@@ -159,7 +128,8 @@ module _ (p : Batches) (bounded : Bounded p) (x : Stage) (f : Fit p x) where
   falls_if : (c : Call) → Goes p x c → rest (after p c x).task (after p c x).coming < rest x.task x.coming + falls_by c → fall (after p c x) < fall x
   falls_if c g l =
       let a = here p x f (λ t. (call p c t).0 ≡ Ok g.answer) g.answered in
-      let h = there p x f (λ t. Lighter p (core x.receiver) c (core (call p c t).1)) (call_lighter p (core x.receiver) c g.answer a) in
+      let h = there p x f (λ t. Lighter p (core x.receiver) c (core (call p c t).1))
+      (lighter p (core x.receiver) c g.answer _ (happened p c (running standard (core x.receiver)) a (runs p standard (core x.receiver) c))) in
       omega (arith, h, l, f.1.closed, f.1.elapsed, g.fit.1.closed, g.fit.1.elapsed)
 
   falls_on : (o : Option Call) → ((c : Call) → o ≡ Some c → Goes p x c) → Applies p x o → FallsOn o

@@ -7,22 +7,24 @@ use Rattle.board.specs.declared.packets.Packet.{Packet}
 use Rattle.board.specs.Bearers.{Bearer, bearer_of, has_room, after_arm, after_disarm}
 use Rattle.capture.specs.declared.packets.Captured.{Captured}
 use Rattle.machine.specs.declared.answers.Answer.{Answer}
-use Rattle.machine.specs.declared.answers.Answer.TheVariants.{Configured, Arrived, Worked, Fetched, Finished, Discarded}
+use Rattle.machine.specs.declared.answers.Answer.TheVariants.{Configured, Arrived, Worked, Fetched, Finished}
 use Rattle.machine.specs.declared.answers.Arrival.{Arrival}
 use Rattle.machine.specs.declared.calls.Call.{Call}
-use Rattle.machine.specs.declared.calls.Call.TheVariants.{Configure, Step, Work, Fetch, Finish, Discard}
+use Rattle.machine.specs.declared.calls.Call.TheVariants.{Configure, Step, Work, Fetch, Finish}
+use Rattle.machine.specs.declared.calls.RawSettings.{RawSettings}
 use Rattle.machine.specs.declared.refusals.Refusal.{Refusal}
 use Rattle.machine.specs.Examples.{standard}
 use Rattle.machine.specs.Laws.{Bounded}
 use Rattle.machine.specs.Machine.{any_left, fresh, call}
 use Rattle.machine.specs.Numbers.{holds, without}
-use Rattle.machine.specs.State.{Core, State, idle, running, Batches}
+use Rattle.machine.specs.State.{Core, State, idle, running, Batches, out_of}
 use Rattle.machine.proofs.Basics.{none_left}
-use Rattle.machine.proofs.Kept.{Kept, KeptState, keeps}
+use Rattle.machine.proofs.Kept.{Kept, KeptState, keeps, call_keeps}
+use Rattle.machine.proofs.Moved.{Happens, happened}
+use Rattle.machine.proofs.OneCall.{out_by, numbered_by, outs, numbers, passes, same_bearers, below_period, arrive_done, work_done, fetch_done, fetch_none, finish_done}
 use Rattle.replay.specs.Fit.{Readable, FitCore, Fit}
 use Rattle.replay.specs.Stages.{Task, Stage, first_stamp, start, core, closed, to_end, span, arrival, coming_after, task_after, turn, after}
 use Rattle.replay.proofs.Applies.{Applies, applies, arrives, finishes, steps, works, fetches, idles, ended, over, span_least, span_most}
-use Rattle.replay.proofs.OneCall.{out_by, numbered_by, left_by, outs, runs, passes, same_bearers, below_period, numbers, fetch_none, arrive_done, work_done, fetch_done, finish_done, discard_done}
 
 -- a packet that the application has is out
 abbrev numbers_of : Option Task → List ℕ
@@ -56,6 +58,15 @@ accepted : (r : Result Answer Refusal) → is_ok r ≡ true → (a : Answer) × 
 accepted (Ok a) h = (a, refl)
 accepted (Err q) h = cc h
 
+module _ (p : Batches) where
+  -- what a configured receiver holds after a call
+  abbrev pub left_by : RawSettings → Core → Call → Core
+  left_by s x c = core (call p c (running s x)).1
+
+  pub runs : (s : RawSettings) (x : Core) (c : Call) → (call p c (running s x)).1 ≡ running s (left_by s x c)
+  unfolding call
+  runs s x c = refl
+
 module _ (p : Batches) {x : Core} {coming : List Captured} {first : ℕ} {task : Option Task} (f : FitCore p x coming first task) where
   abbrev answer : Call → Result Answer Refusal
   answer c = (call p c (running standard x)).0
@@ -80,25 +91,23 @@ module _ (p : Batches) {x : Core} {coming : List Captured} {first : ℕ} {task :
   fetch_fit : (q : Packet) (rest : List Packet) → task ≡ None → x.queue ≡ q ∷ rest → answer Fetch ≡ Ok (Fetched q)
   fetch_fit q rest n e = fetch_done p standard x q rest e (omega (arith, ap length (none_out n)))
 
-  finish_fit : (t : Task) → task ≡ Some t → answer (Finish t.number) ≡ Ok Finished
-  finish_fit t e = finish_done p standard x t.number (rw (out_is t e) (held_alone t.number))
-
-  discard_fit : (t : Task) → task ≡ Some t → answer (Discard t.number) ≡ Ok Discarded
-  discard_fit t e = discard_done p standard x t.number (rw (out_is t e) (held_alone t.number))
+  is_out : (t : Task) → task ≡ Some t → holds t.number x.out ≡ true
+  is_out t e = rw (out_is t e) (held_alone t.number)
 
   -- an accepted call leaves all fit, where it leaves these packets to arrive and the application this packet
   stays : Bounded p → x.clock.closed < 1000 → (c : Call) (a : Answer) → answer c ≡ Ok a → (qs : List Captured) (u : Option Task) →
-      out_by c a x.out ≡ numbers_of u → numbered_by c x.counts.numbered + length qs ≤ 1024 → AllByRecursion (Readable (length x.bearers) first) qs →
+      out_by c (Ok a) x.out ≡ numbers_of u → numbered_by c x.counts.numbered + length qs ≤ 1024 → AllByRecursion (Readable (length x.bearers) first) qs →
       FitCore p (left_by p standard x c) qs first u
   stays bounded l c a e qs u o n r =
-      let kept : Kept p standard _ = subst (KeptState p) (runs p standard x c) (keeps p bounded c (running standard x) f.kept) in
+      let h : Happens p (running standard x) c (Ok a) (running standard (left_by p standard x c)) = happened p c (running standard x) e (runs p standard x c) in
+      let kept : Kept p standard _ = call_keeps p bounded (running standard x) _ c (Ok a) f.kept h in
       record {
         kept = kept;
-        elapsed = below_period p standard x _ f.elapsed (passes p standard x c) kept;
-        closed = omega (arith, (passes p standard x c).most);
-        out = outs p standard x c a e ∙ o;
-        few = omega (arith, n, numbers p standard x c a e);
-        readable = subst (λ m. AllByRecursion (Readable m first) qs) (sym (same_bearers p standard x c)) r;
+        elapsed = below_period p standard x _ f.elapsed (passes h) kept;
+        closed = omega (arith, (passes h).most);
+        out = outs h ∙ o;
+        few = omega (arith, n, numbers h);
+        readable = subst (λ m. AllByRecursion (Readable m first) qs) (sym (same_bearers h)) r;
       }
 
 -- the call of a turn is accepted, it is numbered if it is an arrival, and the stage after it is fit
@@ -135,17 +144,15 @@ module _ (p : Batches) (x : Stage) (f : Fit p x) where
   goes c a e k = record {
     answer = a;
     answered = there (λ t. (call p c t).0 ≡ Ok a) e;
-    numbered = there (λ t. (core (call p c t).1).counts.numbered ≡ numbered_by c held.counts.numbered) (numbers p standard held c a e);
+    numbered = there (λ t. (core (call p c t).1).counts.numbered ≡ numbered_by c held.counts.numbered)
+        (numbers (happened p c (running standard held) e (runs p standard held c)));
     fit = there (Stays c)
         (runs p standard held c, subst (λ r. FitCore p (left_by p standard held c) (coming_after c x.coming) x.first (task_after c r x.task)) (sym e) k);
   }
 
-  -- what calls answer, whatever the turn is
-  pub task_finished : (t : Task) → x.task ≡ Some t → (call p (Finish t.number) x.receiver).0 ≡ Ok Finished
-  task_finished t e = there (λ u. (call p (Finish t.number) u).0 ≡ Ok Finished) (finish_fit p f.1 t e)
-
-  pub task_discarded : (t : Task) → x.task ≡ Some t → (call p (Discard t.number) x.receiver).0 ≡ Ok Discarded
-  task_discarded t e = there (λ u. (call p (Discard t.number) u).0 ≡ Ok Discarded) (discard_fit p f.1 t e)
+  -- whatever the turn is, the application's packet is out, and a fetch is accepted if there is one to fetch
+  pub task_out : (t : Task) → x.task ≡ Some t → holds t.number (out_of x.receiver) ≡ true
+  task_out t e = there (λ u. holds t.number (out_of u) ≡ true) (is_out p f.1 t e)
 
   pub fetched_if_left : x.task ≡ None → any_left held.queue ≡ is_ok (call p Fetch x.receiver).0
   fetched_if_left n = there (λ t. any_left held.queue ≡ is_ok (call p Fetch t).0) (by (any_left held.queue) refl)
@@ -158,7 +165,7 @@ module _ (p : Batches) (x : Stage) (f : Fit p x) where
     -- one that leaves the packets still to arrive as they are, and is given no number
     goes_same : closed x < 1000 → (c : Call) (a : Answer) → (call p c (running standard held)).0 ≡ Ok a →
         coming_after c x.coming ≡ x.coming → numbered_by c held.counts.numbered ≡ held.counts.numbered →
-        out_by c a held.out ≡ numbers_of (task_after c (Ok a) x.task) → Goes p x c
+        out_by c (Ok a) held.out ≡ numbers_of (task_after c (Ok a) x.task) → Goes p x c
     goes_same l c a e same n o =
         goes c a e (stays p f.1 bounded l c a e _ _ o (omega (arith, n, ap length same, f.1.few)) (rw same f.1.readable))
 
@@ -174,7 +181,7 @@ module _ (p : Batches) (x : Stage) (f : Fit p x) where
         (stays p f.1 bounded l (arrival q) _ a (drop 1 x.coming) x.task f.1.out
         (omega (arith, f.1.few, ap length e, ap (λ (k : List Captured). length (drop 1 k)) e)) (rw e (first_readable p f.1 q qs e).1))
     goes_on _ (finishes {t = t} l d e z) =
-        goes_same l (Finish t.number) Finished (finish_fit p f.1 t e) refl refl (rw (out_is p f.1 t e) (spent_alone t.number))
+        goes_same l (Finish t.number) Finished (finish_done p t.number (running standard held) (is_out p f.1 t e)) refl refl (rw (out_is p f.1 t e) (spent_alone t.number))
     goes_on _ (steps l d h o) =
         let a = accepted (call p Step (running standard held)).0 (here (λ t. is_ok (call p Step t).0 ≡ true) o) in
         goes_same l Step a.0 a.1 refl refl f.1.out

@@ -9,7 +9,6 @@ pub mod Laws
 pub mod Led
 pub mod Lent
 pub mod Numbered
-pub mod OneCall
 pub mod Played
 pub mod Readings
 pub mod Recorded

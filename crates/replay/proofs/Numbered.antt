@@ -16,11 +16,12 @@ use Rattle.machine.specs.Laws.{Bounded}
 use Rattle.machine.specs.Machine.{call, fresh}
 use Rattle.machine.specs.State.{State, idle, running, Batches}
 use Rattle.machine.specs.Trace.{Entry, trace}
+use Rattle.machine.proofs.Moved.{happened}
+use Rattle.machine.proofs.OneCall.{numbered_by, arrives}
 use Rattle.replay.specs.Stages.{Stage, start, core, next, arrival, coming_after, turn, after, Leads}
 use Rattle.replay.specs.Runs.{entries}
 use Rattle.replay.specs.Fit.{Fit}
 use Rattle.replay.proofs.Fits.{turn_goes, here}
-use Rattle.replay.proofs.OneCall.{numbered_by, arrives}
 use Rattle.replay.proofs.Led.{ByTurn, each_turn}
 use Rattle.replay.proofs.Ruled.{Ruled, ruled}
 
@@ -49,8 +50,8 @@ module _ (p : Batches) (bounded : Bounded p) (ps : List Captured) where
   turned_numbered : (e : Entry) (a : Arrival) → ByTurn p InOrder order_kept e → e.answered ≡ Ok (Arrived a) → option_map arrival (slice_get ps a.number) ≡ Some e.asked
   turned_numbered e a t h =
       let x : Stage = t.stage in
-      let r = arrives p standard (core x.receiver) e.asked a
-      (here p x t.held.0 (λ u. (call p e.asked u).0 ≡ Ok (Arrived a)) (ap (λ (d : Entry). d.answered) (sym t.is_entry) ∙ h)) in
+      let r = arrives (happened p e.asked (running standard (core x.receiver))
+      (here p x t.held.0 (λ u. (call p e.asked u).0 ≡ Ok (Arrived a)) (ap (λ (d : Entry). d.answered) (sym t.is_entry) ∙ h)) refl) in
       let place : next x ≡ slice_get ps a.number = ap (λ qs. slice_get qs 0) t.held.1 ∙ first_left (numbered_in x.receiver) ps ∙ ap (slice_get ps) (sym r.number) in
       ap (option_map arrival) (sym place) ∙ subst (λ c. Ruled x (Some c)) r.asked (ruled x p e.asked t.is_turn) ∙ ap Some (sym r.asked)
 

@@ -1,12 +1,11 @@
 -- The records of closed periods, and the fates, as a trace grows by one call.
-use Rattle.std.proofs.Common.{◌≡◌, ℕ, zero, suc, ◌+◌, ◌-◌, ◌<◌, ◌≤◌, cond, eqb, List, [], ◌∷◌, ◌++◌, length, replicate, Some, None, Option, Ok, Result, refl, sym, ap, ◌∙◌, subst, length-append, arith}
+use Rattle.std.proofs.Common.{◌≡◌, ℕ, zero, suc, ◌+◌, ◌-◌, ◌<◌, ◌≤◌, cond, eqb, List, [], ◌∷◌, ◌++◌, length, replicate, Some, None, Option, Ok, Result, refl, sym, ap, ◌∙◌, length-append, arith}
 use Rattle.std.proofs.lemmas.Bool.{cond_both, eqb-true}
 use Rattle.std.proofs.lemmas.List.Sums.{sum_by_push}
 use Rattle.board.specs.Bearers.{Bearer}
 use Rattle.machine.specs.declared.answers.Answer.{Answer}
-use Rattle.machine.specs.declared.answers.Answer.TheVariants.{Configured, Told}
+use Rattle.machine.specs.declared.answers.Answer.TheVariants.{Configured}
 use Rattle.machine.specs.declared.answers.Period.{Period}
-use Rattle.machine.specs.declared.answers.Report.{Report}
 use Rattle.machine.specs.declared.calls.Call.{Call}
 use Rattle.machine.specs.declared.calls.Call.TheVariants.{Configure, Tell}
 use Rattle.machine.specs.declared.refusals.Refusal.{Refusal}
@@ -15,12 +14,12 @@ use Rattle.machine.specs.Laws.{Bounded, closed_in, offered_by, offered_in, LastR
 use Rattle.machine.specs.Machine.{call, fresh}
 use Rattle.machine.specs.State.{Core, State, idle, running, Batches}
 use Rattle.machine.specs.Trace.{Entry, entry, trace, end_of}
+use Rattle.machine.proofs.Moved.{happened}
+use Rattle.machine.proofs.OneCall.{Passes, passes, tell_done}
 use Rattle.machine.proofs.Share.{true_records}
 use Rattle.replay.specs.Fates.{decided, noted, fates}
 use Rattle.replay.specs.Runs.{record_of, records, entries}
-use Rattle.replay.specs.Stages.{core}
 use Rattle.replay.proofs.Decided.{fates_push}
-use Rattle.replay.proofs.OneCall.{Passes, passes}
 
 -- one more entry, and where it ends
 trace_push : (p : Batches) (t : State) (cs : List Call) (c : Call) →
@@ -96,13 +95,9 @@ module _ (p : Batches) (bs : List Bearer) where
     -- what the receiver has of the last closed period: what tell would answer
     last_recorded : (cs : List Call) (x : Core) → end_of (idle bs) (entries p bs cs) ≡ running standard x →
         LastRecorded standard.period (λ k. offered_in k (entries p bs cs)) x.clock.closed x.clock.last
-    unfolding call
     last_recorded cs x e =
-        let es : List Entry = entries p bs cs in
-        let r : Report = record { counts = x.counts; closed = x.clock.closed; last = x.clock.last } in
-        let asked : (call p Tell (running standard x)).0 ≡ Ok (Told r) = refl in
-        (true_records p bounded bs (Configure standard ∷ (cs ++ Tell ∷ [])) es [] (entry p (running standard x) Tell) r (entries_push cs (running standard x) e Tell)
-        asked).1
+        (true_records p bounded bs (Configure standard ∷ (cs ++ Tell ∷ [])) (entries p bs cs) [] (entry p (running standard x) Tell) _
+        (entries_push cs (running standard x) e Tell) (tell_done p standard x)).1
 
     -- one more call
     pub grows : (cs : List Call) (c : Call) (x y : Core) → end_of (idle bs) (entries p bs cs) ≡ running standard x →
@@ -114,7 +109,7 @@ module _ (p : Batches) (bs : List Bearer) where
         let es : List Entry = entries p bs (cs ++ c ∷ []) in
         let before : rs ≡ records es k =
         h ∙ sym (ap (λ ds. records ds k) (entries_push cs t e c) ∙ records_kept (entries p bs cs) (entry p t c) k (omega arith)) in
-        let passed : Passes standard x.clock y.clock = subst (λ u. Passes standard x.clock (core u).clock) f (passes p standard x c) in
+        let passed : Passes standard x.clock y.clock = passes (happened p c t refl f) in
         let last = last_recorded (cs ++ c ∷ []) y (end_grow cs t e c ∙ f) in
         record {
           least = passed.least;

@@ -1,16 +1,6 @@
 -- Calls that are refused, and calls that are not.
 use Rattle.std.proofs.Common.{◌≡◌, true, false, Ok, Err, Result, OnOk, OnErr, ap, is_ok}
 use Rattle.std.specs.Result.{result_map_both}
-use Rattle.machine.specs.declared.calls.Call.{Call}
-use Rattle.machine.specs.declared.refusals.Refusal.{Refusal}
-use Rattle.machine.specs.Machine.{call}
-use Rattle.machine.specs.State.{State, Batches}
-use Rattle.machine.proofs.Moved.{happens}
-use Rattle.machine.proofs.Runs.{refused_same}
-
--- a refused call leaves the receiver as it was
-pub stays : (p : Batches) (c : Call) (t : State) (r : Refusal) → (call p c t).0 ≡ Err r → (call p c t).1 ≡ t
-stays p c t r h = refused_same p t (call p c t).1 c (call p c t).0 r (happens p c t) h
 
 -- what answers as a call, is accepted where the call is
 pub as_answered : {R E S F : Type 0} (f : R → S) (g : E → F) (r : Result R E) (a : Result S F) → result_map_both f g r ≡ a → is_ok r ≡ is_ok a

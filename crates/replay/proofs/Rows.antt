@@ -1,5 +1,5 @@
 -- The rows of a replay are by its ledger.
-use Rattle.std.proofs.Common.{◌≡◌, ℕ, zero, suc, ◌+◌, ◌≤◌, true, cond, nat_lt, List, [], ◌∷◌, ◌++◌, length, fold, Some, None, Option, Ok, Err, Result, refl, sym, ap, ◌∙◌, subst, append-nil, arith}
+use Rattle.std.proofs.Common.{◌≡◌, ℕ, zero, suc, ◌+◌, true, cond, nat_lt, List, [], ◌∷◌, ◌++◌, length, fold, Some, None, Option, Ok, Err, Result, refl, sym, ap, ◌∙◌, subst, append-nil, arith}
 use Rattle.std.proofs.lemmas.Bool.{cond_both, ltb-false}
 use Rattle.std.proofs.lemmas.List.Sums.{sum_by-cons}
 use Rattle.std.specs.List.{slice_get, flat_map}
@@ -21,8 +21,8 @@ use Rattle.machine.specs.Ledger.{Ledger, Columns, nothing, told, accepted, stepp
 use Rattle.machine.specs.Laws.{Bounded, times_in_all, places}
 use Rattle.machine.specs.Numbers.{holds, times}
 use Rattle.machine.proofs.Agreement.{TallyState, Agreeing, starts_agreeing, keeps_agreeing}
-use Rattle.machine.proofs.Basics.{times-append, tested}
-use Rattle.machine.proofs.Loads.{free_times}
+use Rattle.machine.proofs.Basics.{times-append}
+use Rattle.machine.proofs.Loads.{free_times, counted_held}
 use Rattle.machine.proofs.Places.{one_place}
 use Rattle.machine.proofs.Runs.{at_end}
 use Rattle.replay.specs.declared.fates.Fallen.{Fallen}
@@ -78,10 +78,6 @@ told_discards : (depths : List ℕ) (c : Call) (r : Result Answer Refusal) (l : 
     (told depths c r l).columns.discarded ≡ l.columns.discarded
 told_discards depths c (Err e) l n = refl
 told_discards depths c (Ok a) l n = accepted_discards depths c a l n
-
--- a number that is counted is held
-counted_held : (n : ℕ) (ns : List ℕ) → 1 ≤ times n ns → holds n ns ≡ true
-counted_held n ns h = tested (λ b. b ≡ true) (holds n ns) (λ _. refl) (λ e. absurd (omega (arith, free_times n ns e, h)))
 
 times_in_each : (n : ℕ) (cs : List (List ℕ)) → times n (flat_map (λ (ns : List ℕ). ns) cs) ≡ times_in_all n cs
 times_in_each n [] = refl

@@ -1,18 +1,15 @@
 -- What the receiver of a replay tells.
-use Rattle.std.proofs.Common.{◌≡◌, Ok, ap, ◌∙◌, refl}
+use Rattle.std.proofs.Common.{◌≡◌, Ok, ap, ◌∙◌}
 use Rattle.machine.specs.declared.answers.Answer.TheVariants.{Told}
 use Rattle.machine.specs.declared.answers.Report.{Report}
 use Rattle.machine.specs.declared.calls.Call.TheVariants.{Tell}
 use Rattle.machine.specs.declared.calls.RawSettings.{RawSettings}
 use Rattle.machine.specs.Machine.{call}
 use Rattle.machine.specs.State.{Core, State, running, Batches}
+use Rattle.machine.proofs.OneCall.{tell_done}
 use Rattle.replay.specs.Turns.{report}
-
-told_running : (p : Batches) (s : RawSettings) (x : Core) → (call p Tell (running s x)).0 ≡ Ok (Told (report x))
-unfolding call
-told_running p s x = refl
 
 pub tells : (p : Batches) (s : RawSettings) (x : Core) (t : State) (r : Report) → t ≡ running s x → Ok (Told r) ≡ (call p Tell t).0 → r ≡ report x
 tells p s x t r e h =
-    let k : Ok (Told r) ≡ Ok (Told (report x)) = h ∙ ap (λ (u : State). (call p Tell u).0) e ∙ told_running p s x in
+    let k : Ok (Told r) ≡ Ok (Told (report x)) = h ∙ ap (λ (u : State). (call p Tell u).0) e ∙ tell_done p s x in
     cc k

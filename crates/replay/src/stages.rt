@@ -179,7 +179,7 @@ impl<'a, B: Board, P: Policy> Stage<'a, B, P> {
     }
 
     /// Goes on with the polling, unless that is refused.
-    #[tactic(auto, using(crate::proofs::Refused::stays))]
+    #[tactic(auto, using(machine::proofs::OneCall::call_refused))]
     fn step(&mut self) -> Result<Option<Decision>, Refusal>
         ensures value { is_ok result ≡ is_ok (answer_to P.quotas P.GREATEST Step self.old) }
         ensures after { IfOk result (λ d. Makes P.quotas P.GREATEST Step self.old d self.new) }
@@ -190,7 +190,7 @@ impl<'a, B: Board, P: Policy> Stage<'a, B, P> {
     }
 
     /// The application gets the queue's first packet, unless that is refused.
-    #[tactic(auto, using(crate::proofs::Refused::stays))]
+    #[tactic(auto, using(machine::proofs::OneCall::call_refused))]
     fn fetch(&mut self) -> Result<(), Refusal>
         requires fit { Playable P.quotas P.GREATEST self.old }
         requires none { self.old.stage.task ≡ None }

@@ -1,8 +1,9 @@
 use Rattle.std.proofs.Common.{Ok, ap, rules, ◌∙◌}
 use Rattle.machine.specs.declared.answers.Answer.TheVariants.{Discarded}
 use Rattle.machine.specs.declared.calls.Call.TheVariants.{Discard}
+use Rattle.machine.proofs.OneCall.{discard_done}
 use Rattle.replay.specs.Turns.{Playing, answer_to, policy_of}
-use Rattle.replay.proofs.Fits.{task_discarded}
+use Rattle.replay.proofs.Fits.{task_out}
 use Rattle.replay.proofs.Refused.{as_answered}
 use Rattle.replay.proofs.stages.Stage.end.Goals as goal
 
@@ -10,8 +11,8 @@ pub unwrap-requires : goal.unwrap-requires
 unwrap-requires g c =
     let x = c.args.self in
     let n = c.in-Some.field-0.receipt.number in
-    let done = task_discarded (policy_of g.P.Policy.quotas g.P.Policy.GREATEST x) x.stage c.requires.fit
-    (record { number = n; to_go = c.in-Some.field-0.to_go }) (search rules) in
+    let p = policy_of g.P.Policy.quotas g.P.Policy.GREATEST x in
+    let out = task_out p x.stage c.requires.fit (record { number = n; to_go = c.in-Some.field-0.to_go }) (search rules) in
     as_answered _ _ c.discard.result (Ok Discarded)
     (c.discard.ensures.value ∙ ap (λ (v : Playing _). answer_to g.P.Policy.quotas g.P.Policy.GREATEST (Discard n) v) c.self.view_is
-    ∙ done)
+    ∙ discard_done p n x.stage.receiver out)
