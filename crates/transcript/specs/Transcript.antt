@@ -1,11 +1,12 @@
 -- What is printed of a text of calls: a line for each, said by the rules of the script.
 use Rattle.std.specs.Prelude.{◌≡◌, ℕ, cond, List, [], ◌∷◌, ◌++◌, Ok, Err, Result, codes, flat_map, length, nat_le, string_bytes, String}
 use Rattle.std.specs.declared.alloc.Global.{Global}
+use Rattle.board.specs.Bearers.{Bearer}
 use Rattle.conduct.specs.Lists.{replies_to}
 use Rattle.conduct.specs.declared.replies.Reply.{Reply}
 use Rattle.conduct.specs.declared.replies.Reply.TheVariants.{Accepted, Refused, NoReceipt}
 use Rattle.machine.specs.Examples.{four, standard_board}
-use Rattle.machine.specs.State.{idle}
+use Rattle.machine.specs.State.{Batches, idle}
 use Rattle.script.specs.Answers.{said}
 use Rattle.script.specs.Refusals.{refused}
 use Rattle.script.specs.Script.{Meaning, meaning}
@@ -21,14 +22,18 @@ line_of NoReceipt = codes "no receipt"
 abbrev pub lines_of : List Reply → List ℕ
 lines_of replies = flat_map (λ r. line_of r ++ 10 ∷ []) replies
 
--- on the standard receiver: the lines of the replies to all calls, or the first line that cannot be read
-abbrev pub answers : Meaning → Result (List ℕ) Failure
-answers (Ok calls) = Ok (lines_of (replies_to four (idle standard_board) calls))
-answers (Err u) = Err (Unread u)
+-- on a receiver put up over a policy and bearers: the lines of the replies to all calls, or the first line that cannot be read
+abbrev pub answers : Batches → List Bearer → Meaning → Result (List ℕ) Failure
+answers p bs (Ok calls) = Ok (lines_of (replies_to p (idle bs) calls))
+answers p bs (Err u) = Err (Unread u)
 
 -- no text above 1,048,576 bytes is read
+abbrev pub transcript_over : Batches → List Bearer → List ℕ → Result (List ℕ) Failure
+transcript_over p bs text = cond (nat_le (length text) 1048576) (answers p bs (meaning text)) (Err TooLong)
+
+-- on the standard receiver
 abbrev pub transcript : List ℕ → Result (List ℕ) Failure
-transcript text = cond (nat_le (length text) 1048576) (answers (meaning text)) (Err TooLong)
+transcript text = transcript_over four standard_board text
 
 -- when a host's answer is what is to be printed; want of memory says nothing of the text
 abbrev pub Tells : Result (List ℕ) Failure → Result (String Global) Failure → Type 0

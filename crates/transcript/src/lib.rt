@@ -1,4 +1,4 @@
-//! A text of calls, made on the standard receiver, and what is printed of them: a line for each call.
+//! A text of calls, made on a new receiver, and what is printed of them: a line for each call.
 #![tactic(auto)]
 
 mod failures;
@@ -8,4 +8,4 @@ mod runs;
 mod tests;
 
 pub use failures::{Failure, reason};
-pub use runs::{LONGEST, run};
+pub use runs::{LONGEST, run, run_over};

@@ -2,7 +2,7 @@ ghost use Rattle.std.specs.Prelude.{◌≡◌, IfOk, string_bytes};
 ghost use Rattle.machine.specs.State.{idle};
 ghost use Rattle.receiver.specs.Receivers.{batches};
 ghost use Rattle.conduct.specs.Lists.{replies_to};
-ghost use Rattle.transcript.specs.Transcript.{Tells, lines_of, transcript};
+ghost use Rattle.transcript.specs.Transcript.{Tells, lines_of, transcript, transcript_over};
 
 use crate::failures::Failure;
 use crate::lines::lines;
@@ -40,19 +40,31 @@ fn told<B: Board + Drop, P: Policy + Drop>(
     lines(alloc, &swept.replies)
 }
 
-/// Makes the calls of a text on the standard receiver, and answers a line for each.
-pub fn run(alloc: Global, text: &[u8]) -> Result<String, Failure>
-    ensures value { Tells (transcript text.now) result }
+/// Makes the calls of a text on a new receiver over a board and a policy, and answers a line for each.
+pub fn run_over<B: Board + Drop, P: Policy + Drop>(
+    alloc: Global,
+    board: B,
+    policy: P,
+    text: &[u8],
+) -> Result<String, Failure>
+    ensures value { Tells (transcript_over (batches (P.quotas policy) P.GREATEST) (B.bearers board) text.now) result }
 {
     if text.len() > LONGEST {
         return Err(Failure::TooLong);
     }
     let calls = read(alloc, text)?;
+    let text = told(alloc, board, policy, &calls)?;
+    Ok(text)
+}
+
+/// Makes the calls of a text on the standard receiver, and answers a line for each.
+pub fn run(alloc: Global, text: &[u8]) -> Result<String, Failure>
+    ensures value { Tells (transcript text.now) result }
+{
     let (mut first, mut third) = ([BLANK; 8], [BLANK; 16]);
     let board = Pair(
         RingBearer::new(&mut first),
         Pair(MailboxBearer::new(4), RingBearer::new(&mut third)),
     );
-    let text = told(alloc, board, Fixed::new(4), &calls)?;
-    Ok(text)
+    run_over(alloc, board, Fixed::new(4), text)
 }
