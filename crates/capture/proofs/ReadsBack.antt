@@ -1,5 +1,5 @@
 -- A sound file reads back as what was recorded.
-use Rattle.std.proofs.Common.{◌≡◌, ℕ, ◌+◌, ◌^◌, ◌<◌, ◌≤◌, false, List, [], ◌∷◌, ◌++◌, map, length, get_or, drop, Some, None, Ok, Option, Result, Vec, All, sym, refl, ap, ◌∙◌, subst, arith}
+use Rattle.std.proofs.Common.{◌≡◌, ℕ, ◌+◌, ◌^◌, ◌<◌, ◌≤◌, false, List, [], ◌∷◌, ◌++◌, map, length, get_or, drop, Some, None, Ok, Err, IfErr, Option, Result, Vec, All, sym, refl, ap, ◌∙◌, subst, arith}
 use Rattle.std.specs.declared.alloc.Global.{Global}
 use Rattle.std.specs.List.{flat_map}
 use Rattle.std.proofs.lemmas.List.{append_assoc, length-append, length-drop, get_or-drop, drop-drop, drop_at}
@@ -10,6 +10,7 @@ use Rattle.capture.specs.declared.orders.ByteOrder.{ByteOrder}
 use Rattle.capture.specs.declared.orders.ByteOrder.TheVariants.{Big, Little}
 use Rattle.capture.specs.declared.packets.Captured.{Captured}
 use Rattle.capture.specs.declared.refusals.ReadError.{ReadError}
+use Rattle.capture.specs.declared.refusals.ReadError.TheVariants.{Memory, Refused}
 use Rattle.capture.specs.Meaning.{Meaning, ahead}
 use Rattle.capture.specs.Numbers.{byte, word}
 use Rattle.capture.specs.Savefile as savefile
@@ -136,10 +137,18 @@ reads_back shown f s =
     ∙ rest_left f.records _ (origin f.records)
     (record { here = past_header f.order f.unread ys s.header; small = s.small; few = s.few; since = refl; fair = s.fair })
 
+-- an answer that tells of a refused capture is its refusal
+told_refused : (m : Meaning) (r : Result (Vec Captured Global) ReadError) → Tells m r → IfErr m (λ f. r ≡ Err (Refused f))
+told_refused (Ok ps) r t = tt
+told_refused (Err f) (Ok ps) t = cc t
+told_refused (Err f) (Err (Refused g)) t = cc t
+told_refused (Err f) (Err Memory) t = cc t
+
 -- what `read` ensures of an answer that tells what the file means
-pub answers : (shown : ℕ) (bs : List ℕ) (r : Result (Vec Captured Global) ReadError) → Tells (meaning shown bs) r → record { value : Tells (meaning shown bs) r; faithful : (f : File) → Sound shown f → bs ≡ written f → Tells (Ok (recorded f)) r }
+pub answers : (shown : ℕ) (bs : List ℕ) (r : Result (Vec Captured Global) ReadError) → Tells (meaning shown bs) r → record { value : Tells (meaning shown bs) r; refused : IfErr (meaning shown bs) (λ f. r ≡ Err (Refused f)); faithful : (f : File) → Sound shown f → bs ≡ written f → Tells (Ok (recorded f)) r }
 answers shown bs r t =
     record {
       value = t;
+      refused = told_refused (meaning shown bs) r t;
       faithful = λ f s e. subst (λ (m : Meaning). Tells m r) (ap (meaning shown) e ∙ reads_back shown f s) t;
     }

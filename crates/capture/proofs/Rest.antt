@@ -1,5 +1,5 @@
 -- What the rest of a capture means, one record on.
-use Rattle.std.proofs.Common.{◌≡◌, ℕ, zero, suc, ◌-◌, ◌<◌, List, [], ◌∷◌, ◌++◌, Some, None, Ok, Err, Option, sym, refl, ap, ◌∙◌, append_assoc, append-nil, arith}
+use Rattle.std.proofs.Common.{◌≡◌, ℕ, zero, suc, ◌-◌, ◌<◌, List, [], ◌∷◌, ◌++◌, Some, None, Ok, Err, IsOk, Option, sym, refl, ap, ◌∙◌, append_assoc, append-nil, arith}
 use Rattle.capture.specs.declared.packets.Captured.{Captured}
 use Rattle.capture.specs.declared.refusals.Refusal.{Refusal}
 use Rattle.capture.specs.Meaning.{Meaning, ahead}
@@ -11,6 +11,10 @@ ahead_more ps p (Err f) = refl
 
 ahead_all : (ps : List Captured) → ahead ps (Ok []) ≡ Ok ps
 ahead_all ps = ap {B = Meaning} Ok (append-nil ps)
+
+pub ahead_read : (ps : List Captured) (m : Meaning) → IsOk m → IsOk (ahead ps m)
+ahead_read ps (Ok qs) e = refl
+ahead_read ps (Err f) e = cc e
 
 -- whatever room is left, the end of the file and a refusal end the reading
 pub items_end : (n : ℕ) (r : Reading) → item r ≡ Ok None → items n r ≡ Ok []

@@ -1,13 +1,13 @@
 -- When a host's answer is what the capture means.
-use Rattle.std.specs.Prelude.{◌≡◌, Ok, Err, vec_items, Result, Vec}
+use Rattle.std.specs.Prelude.{◌≡◌, Ok, Err, IsOk, vec_items, Result, Vec}
 use Rattle.std.specs.declared.alloc.Global.{Global}
 use Rattle.capture.specs.declared.packets.Captured.{Captured}
 use Rattle.capture.specs.declared.refusals.ReadError.{ReadError}
 use Rattle.capture.specs.declared.refusals.ReadError.TheVariants.{Memory, Refused}
 use Rattle.capture.specs.Meaning.{Meaning}
 
--- want of memory says nothing of the capture
+-- want of memory is told only of a capture that is not refused
 abbrev pub Tells : Meaning → Result (Vec Captured Global) ReadError → Type 0
 Tells m (Ok packets) = m ≡ Ok (vec_items packets)
 Tells m (Err (Refused f)) = m ≡ Err f
-Tells m (Err Memory) = Unit {0}
+Tells m (Err Memory) = IsOk m

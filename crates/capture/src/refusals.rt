@@ -2,7 +2,6 @@ ghost use Rattle.std.specs.Prelude.{◌≡◌};
 ghost use Rattle.capture.specs.Refusals.{number, place};
 ghost use Rattle.capture.specs.declared.refusals.ReadError.TheVariants as error;
 
-use std::alloc::AllocFailed;
 use std::fmt;
 
 /// Why a capture is not read. A record's fault carries the record's offset in the file.
@@ -81,7 +80,7 @@ impl fmt::Display for Refusal {
     }
 }
 
-/// Why no packets came: the capture is refused, or memory ran out, which says nothing of the capture.
+/// Why no packets came: the capture is refused, or it is not, and memory ran out.
 #[derive(Clone, Copy, PartialEq, Eq, Debug)]
 pub enum ReadError {
     Memory,
@@ -93,13 +92,5 @@ impl From<Refusal> for ReadError {
 
     fn from(refusal: Refusal) -> ReadError {
         ReadError::Refused(refusal)
-    }
-}
-
-impl<T: Drop> From<AllocFailed<T>> for ReadError {
-    ghost from_gives = { λ _ r. r ≡ error.Memory };
-
-    fn from(_e: AllocFailed<T>) -> ReadError {
-        ReadError::Memory
     }
 }

@@ -2,7 +2,7 @@
 use crate::entry::read;
 use crate::orders::ByteOrder;
 use crate::packets::Captured;
-use crate::refusals::ReadError;
+use crate::refusals::{ReadError, Refusal};
 use std::alloc::{AllocError, Global};
 use std::iter;
 use std::test::Fail;
@@ -153,5 +153,21 @@ fn byte_orders(rt: HostRuntime) -> Result<(), Fail> {
             }
         );
     }
+    Ok(())
+}
+
+/// Written out, so that nothing but the reading asks for memory: it answers so if there is none, too.
+#[test]
+fn refused_without_memory(rt: HostRuntime) -> Result<(), Fail> {
+    // One packet for bearer 0, and then a record without data.
+    let file = *b"\xD4\xC3\xB2\xA1\x02\0\x04\0\0\0\0\0\0\0\0\0\0\0\0\0\0\0\0\0\
+        \0\0\0\0\0\0\0\0\x01\0\0\0\x15\0\0\0\0\
+        \0\0\0\0\0\0\0\0\0\0\0\0\x15\0\0\0";
+    assert!(rt;
+        matches!(
+            read(rt.alloc(), &file, 3),
+            Err(ReadError::Refused(Refusal::NoData(41)))
+        )
+    );
     Ok(())
 }

@@ -1,5 +1,5 @@
 -- What a replay answers, and what it leaves in the memory that is lent for its tables.
-use Rattle.std.specs.Prelude.{◌≡◌, ℕ, ◌+◌, cond, List, length, fold, Ok, Err, Result}
+use Rattle.std.specs.Prelude.{◌≡◌, ℕ, ◌+◌, cond, List, length, fold, Ok, Err, IsOk, Result}
 use Rattle.capture.specs.declared.packets.Captured.{Captured}
 use Rattle.capture.specs.declared.refusals.ReadError.{ReadError}
 use Rattle.capture.specs.declared.refusals.ReadError.TheVariants as reading
@@ -67,10 +67,10 @@ module _ (ps : List Captured) (r : StandardRun ps) where
   abbrev pub periods_text : List ℕ
   periods_text = periods_table (periods four standard_board ps r)
 
--- When an answer is what a capture's replay comes to. Want of memory says nothing of the capture.
+-- When an answer is what a capture's replay comes to. Want of memory is told only of a capture that is not refused.
 abbrev pub Refuses : Meaning → ReadError → Type 0
 Refuses m (reading.Refused f) = m ≡ Err f
-Refuses m reading.Memory = Unit {0}
+Refuses m reading.Memory = IsOk m
 
 -- a reader's error, as a replay's
 abbrev pub passed_on : ReadError → ReplayError
@@ -107,4 +107,4 @@ pub record Replays (m : Meaning) (packets periods : List ℕ) (done : Replayed) 
 abbrev pub Declines : Meaning → List ℕ → List ℕ → ReplayError → Type 0
 Declines m packets periods (Refused (Unreadable f)) = m ≡ Err f
 Declines m packets periods (Refused (TableTooSmall need)) = Answered m packets periods (Err (record { need = need }))
-Declines m packets periods Memory = Unit {0}
+Declines m packets periods Memory = IsOk m

@@ -36,7 +36,7 @@ impl Refusal {
     }
 }
 
-/// Why a replay gave no tables: it is refused, or the host's memory ran out, which says nothing of the capture.
+/// Why a replay gave no tables: it is refused, or the capture is not, and the host's memory ran out.
 #[derive(Clone, Copy, PartialEq, Eq, Debug)]
 pub enum ReplayError {
     Memory,

@@ -1,0 +1,12 @@
+use Rattle.std.proofs.Common.{◌≡◌, List}
+use Rattle.capture.specs.declared.packets.Captured.{Captured}
+use Rattle.capture.specs.Meaning.{ahead}
+use Rattle.capture.specs.Savefile.{rest}
+use Rattle.capture.proofs.entry.pass_over.Given as goal
+
+-- what is passed over, and then the rest
+abbrev pub invariant-loop-packet : goal.invariant-loop-packet
+invariant-loop-packet l = (ps : List Captured) × (rest l.initial.reader ≡ ahead ps (rest l.reader))
+
+abbrev pub decreases-loop-packet : goal.decreases-loop-packet
+decreases-loop-packet l = l.reader.room
