@@ -1,5 +1,7 @@
 //! The proved receiver and replay beside a second writing of the same rules,
 //! so that the two can be compared call by call and byte by byte.
 
+pub mod captures;
+pub mod random;
 pub mod reference;
 pub mod terms;
