@@ -2,6 +2,7 @@
 //! so that the two can be compared call by call and byte by byte.
 
 pub mod captures;
+pub mod lists;
 pub mod random;
 pub mod reference;
 pub mod terms;
