@@ -2,7 +2,11 @@
 //! so that the two can be compared call by call and byte by byte.
 
 pub mod captures;
+pub mod lent;
 pub mod lists;
+pub mod proved;
 pub mod random;
 pub mod reference;
+pub mod replays;
+pub mod samples;
 pub mod terms;
