@@ -116,12 +116,14 @@ impl<'a> Author<'a> {
                 let count = self.random.among(1, 12);
                 self.arrive(count);
             }
-            Move::Step => self.repeat(Call::Step, 1),
-            Move::Steps => self.repeat(Call::Step, 12),
+            Move::Step => self.calls.push(Call::Step),
+            Move::Steps => self.steps(),
             Move::Work => self.work(),
             Move::Close => self.close(),
-            Move::Fetch => self.repeat(Call::Fetch, 1),
-            Move::Fetches => self.repeat(Call::Fetch, 18),
+            Move::Fetch => self.calls.push(Call::Fetch),
+            Move::Fetches => {
+                self.repeat(Call::Fetch, 18);
+            }
             Move::Spend => self.spend(1),
             Move::SpendAll => self.spend(16),
             Move::Tell => self.calls.push(Call::Tell),
@@ -149,16 +151,22 @@ impl<'a> Author<'a> {
         self.calls.push(Call::Configure(settings));
     }
 
-    /// Up to `most` times the same call, but not again once it is refused.
-    fn repeat(&mut self, call: Call, most: u64) {
+    /// Steps until one is refused; then often what helps in most cases, the period's end.
+    fn steps(&mut self) {
+        if self.repeat(Call::Step, 12) && self.random.chance(1, 3) {
+            self.close();
+        }
+    }
+
+    /// Up to `most` times the same call, but not again once it is refused, which is answered.
+    fn repeat(&mut self, call: Call, most: u64) -> bool {
         let count = self.random.among(1, most) as usize;
         self.calls.extend((0..count).map(|_| call));
-        if count > 1 {
-            let refused = self.look().min(count - 1);
-            self.calls
-                .truncate(self.calls.len() - refused.saturating_sub(1));
-            self.read = self.calls.len();
-        }
+        let refused = self.look().min(count);
+        self.calls
+            .truncate(self.calls.len() - refused.saturating_sub(1));
+        self.read = self.calls.len();
+        refused > 0
     }
 
     /// So many packets on one bearer.
