@@ -10,3 +10,4 @@ pub mod reference;
 pub mod replays;
 pub mod samples;
 pub mod terms;
+pub mod transcripts;
