@@ -8,8 +8,7 @@ use super::refusals::Refusal;
 use crate::terms::{self, Bearer, Call, Refused};
 use std::fmt::{self, Display, Formatter, Write};
 
-/// A line for each call, made one after another on a new receiver. Of a
-/// refusal its number and its place are printed; the rule in words is not.
+/// A line for each call, made one after another on a new receiver.
 pub fn answers(board: &[Bearer], policy: terms::Policy, calls: &[Call]) -> String {
     let mut host = Host {
         receiver: Receiver::new(Board::new(board), Policy::new(policy)),
@@ -124,7 +123,7 @@ impl Display for Reply {
             Reply::NoReceipt => f.write_str("no receipt"),
             Reply::Refused(refusal) => {
                 let Refused { number, place } = (*refusal).into();
-                write!(f, "refused {number} place {place}")
+                write!(f, "refused {number} place {place}: {}", refusal.words())
             }
         }
     }

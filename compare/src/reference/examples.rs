@@ -30,12 +30,19 @@ const fn arrive(bearer: u64, length: u64) -> Call {
     }
 }
 
+/// The lines of a text, without the words behind a refusal's place.
+fn lines(text: &str) -> Vec<&str> {
+    text.lines()
+        .filter_map(|line| line.split(": ").next())
+        .collect()
+}
+
 /// Makes the calls on a new receiver over this board.
 fn check_on(board: &[Bearer], policy: Policy, calls: &[(Call, &str)]) {
     let (made, expected): (Vec<Call>, Vec<&str>) = calls.iter().copied().unzip();
     let text = answers(board, policy, &made);
     assert!(text.is_empty() || text.ends_with('\n'));
-    assert_eq!(text.lines().collect::<Vec<_>>(), expected);
+    assert_eq!(lines(&text), expected);
 }
 
 /// Makes the calls on the standard receiver, configured like this.
@@ -50,6 +57,15 @@ fn check_configure(settings: [u64; 6], answer: &str) {
         &STANDARD,
         Policy::Fixed(4),
         &[(Configure(settings), answer)],
+    );
+}
+
+#[test]
+fn refusals_have_words() {
+    let calls = [Configure(SETTINGS), arrive(7, 20)];
+    assert_eq!(
+        answers(&STANDARD, Policy::Fixed(4), &calls),
+        "configured\nrefused 4 place 7: the board does not show this bearer\n"
     );
 }
 
@@ -314,7 +330,7 @@ fn example_r() {
     let begun = calls.len();
     calls.extend([Fetch, Finish(3), Fetch, Fetch, Finish(3), Finish(16), Fetch]);
     let text = answers(&[bearer(Kind::Ring, 17)], Policy::Fixed(16), &calls);
-    let lines: Vec<&str> = text.lines().collect();
+    let lines = lines(&text);
     assert_eq!(lines[begun - 1], "fetched 15 length 1 tag 0");
     let expected = [
         "refused 29 place 0",

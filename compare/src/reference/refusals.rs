@@ -1,4 +1,4 @@
-//! Refusals, each with its number and its place.
+//! Refusals, each with its number, its place and its words.
 
 use crate::terms::Refused;
 
@@ -64,6 +64,39 @@ impl Refusal {
             Refusal::QueueEmpty => (28, 0),
             Refusal::TooManyOut => (29, 0),
             Refusal::NotOut => (30, 0),
+        }
+    }
+
+    /// What a line of answers says of a refused call; of captures no such line tells.
+    pub fn words(self) -> &'static str {
+        match self {
+            Refusal::Setting(_) => "the setting is outside its range",
+            Refusal::NoShare => "the limit and the grant bound together are above the period",
+            Refusal::BearerNotShown(_) => "the board does not show this bearer",
+            Refusal::Length(_) => "the length is not 1 to 384",
+            Refusal::WorkOutOfRange => "the work is of no cycles, or of more than a period",
+            Refusal::NotConfigured => "the receiver is not configured",
+            Refusal::ConfiguredAlready => "the receiver is configured already",
+            Refusal::PacketWaits(_) => "a packet waits in this bearer",
+            Refusal::Retired => "the receiver is retired",
+            Refusal::LimitUsed => "the bearers have used their limit in this period",
+            Refusal::Held => "the hold has not ended",
+            Refusal::NothingToServe => "the poll list is empty",
+            Refusal::PastPeriodEnd(_) => {
+                "the work goes past the period's end, this many cycles away"
+            }
+            Refusal::QueueEmpty => "the queue is empty",
+            Refusal::TooManyOut => "sixteen packets are out",
+            Refusal::NotOut => "the receipt's number is not out",
+            Refusal::CaptureTooLong
+            | Refusal::NotASavefile
+            | Refusal::RecordCutOff(_)
+            | Refusal::NoData(_)
+            | Refusal::RecordBearer(_)
+            | Refusal::TooManyPackets(_)
+            | Refusal::TooLate(_)
+            | Refusal::RecordLength(_)
+            | Refusal::TableMemory(_) => "",
         }
     }
 }
