@@ -12,5 +12,5 @@ mod tests;
 pub use entry::read;
 pub use orders::ByteOrder;
 pub use packets::Captured;
-pub use readers::Reader;
+pub use readers::{ENOUGH, Reader};
 pub use refusals::{ReadError, Refusal};

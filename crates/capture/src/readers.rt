@@ -9,6 +9,9 @@ use std::marker::Model;
 
 const LONGEST: usize = 65_536;
 
+/// One byte more than a capture may have. A program reads no more of its input: that is refused by then, whatever follows.
+pub const ENOUGH: u64 = LONGEST as u64 + 1;
+
 const HEADER: usize = 24;
 
 const MAGIC: u32 = 0xA1B2_C3D4;

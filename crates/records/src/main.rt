@@ -1,12 +1,10 @@
 //! Prints, as a table, every packet of the capture on standard input, or why the capture is refused.
 #![tactic(auto)]
 
+use capture::ENOUGH;
 use listing::list;
 use std::io;
 use std::io::{Read, Write};
-
-/// One byte more than a capture may have: it is refused by then, whatever follows.
-const ENOUGH: u64 = 65_537;
 
 fn main(rt: HostRuntime) -> io::Result<()> {
     let mut capture = Vec::new(rt.alloc());

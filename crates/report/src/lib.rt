@@ -7,6 +7,7 @@ mod sayings;
 #[cfg(test)]
 mod tests;
 
+pub use capture::ENOUGH;
 pub use entry::report;
-pub use reports::{ENOUGH, Report, Table};
+pub use reports::{Report, Table};
 pub use sayings::words;

@@ -5,9 +5,6 @@ use capture::Refusal;
 use replay::{Figures, Tables};
 use std::alloc::Global;
 
-/// A program reads no more bytes of a capture: it is refused by then, whatever follows.
-pub const ENOUGH: u64 = 65_537;
-
 /// Which table of a replay is printed.
 #[derive(Clone, Copy, PartialEq, Eq, Debug)]
 pub enum Table {
