@@ -1,10 +1,15 @@
 -- What a capture of any format means: the packets that it tells of, in order, or why it is refused.
-use Rattle.std.specs.Prelude.{List, [], ◌∷◌, ◌++◌, Some, None, Ok, Err, Option, Result}
+use Rattle.std.specs.Prelude.{ℕ, List, [], ◌∷◌, ◌++◌, Some, None, Ok, Err, Option, Result}
 use Rattle.capture.specs.declared.packets.Captured.{Captured}
 use Rattle.capture.specs.declared.refusals.Refusal.{Refusal}
 
 abbrev pub Meaning : Type 0
 Meaning = Result (List Captured) Refusal
+
+-- the timestamp of the first packet
+abbrev pub first_stamp : List Captured → ℕ
+first_stamp [] = 0
+first_stamp (p ∷ ps) = p.microseconds
 
 -- packets before what the rest of a capture means, unless that is refused
 abbrev pub ahead : List Captured → Meaning → Meaning

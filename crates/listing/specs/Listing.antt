@@ -2,7 +2,7 @@
 use Rattle.std.specs.Prelude.{ℕ, ◌+◌, ◌-◌, List, [], ◌∷◌, length, Ok, Err, Result}
 use Rattle.capture.specs.declared.packets.Captured.{Captured}
 use Rattle.capture.specs.declared.refusals.Refusal.{Refusal}
-use Rattle.capture.specs.Meaning.{Meaning}
+use Rattle.capture.specs.Meaning.{Meaning, first_stamp}
 use Rattle.capture.specs.Refusals.{number, place}
 use Rattle.table.specs.declared.fields.Field.{Field}
 use Rattle.table.specs.declared.fields.Field.TheVariants as field
@@ -11,11 +11,6 @@ use Rattle.table.specs.Text.{row, table}
 
 abbrev pub heading : List Field
 heading = field.Word Packet ∷ field.Word Bearer ∷ field.Word Length ∷ field.Word Microseconds ∷ []
-
--- the timestamp of the first packet
-abbrev pub stamped : List Captured → ℕ
-stamped [] = 0
-stamped (p ∷ ps) = p.microseconds
 
 -- microseconds count from the first packet's timestamp, and are 0 before it
 abbrev pub row_of_record : ℕ → ℕ → Captured → List Field
@@ -28,7 +23,7 @@ record_rows index first [] = []
 record_rows index first (p ∷ ps) = row_of_record index first p ∷ record_rows (index + 1) first ps
 
 abbrev pub records : List Captured → List (List Field)
-records ps = heading ∷ record_rows 0 (stamped ps) ps
+records ps = heading ∷ record_rows 0 (first_stamp ps) ps
 
 -- of a refused capture the refusal's number and place, as a row
 abbrev pub refusal_row : Refusal → List ℕ

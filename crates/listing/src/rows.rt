@@ -1,6 +1,7 @@
 ghost use Rattle.std.specs.Prelude.{◌≡◌, IfOk};
+ghost use Rattle.capture.specs.Meaning.{first_stamp};
 ghost use Rattle.table.specs.Text.{table};
-ghost use Rattle.listing.specs.Listing.{stamped, row_of_record, records, refusal_row};
+ghost use Rattle.listing.specs.Listing.{row_of_record, records, refusal_row};
 
 use capture::{Captured, Refusal};
 use std::alloc::{AllocError, Global};
@@ -22,7 +23,7 @@ fn record_row(index: usize, first: u64, packet: Captured) -> [Field; 4]
 
 /// The timestamp that a table counts from: the first packet's.
 fn first_stamp(packets: &[Captured]) -> u64
-    ensures value { result ≡ stamped packets.now }
+    ensures value { result ≡ first_stamp packets.now }
 {
     packets.first().map_or(0, |packet| packet.microseconds)
 }

@@ -4,6 +4,7 @@ use Rattle.std.specs.List.{slice_get, list_any}
 use Rattle.std.specs.Option.{option_map, option_map_or}
 use Rattle.board.specs.Bearers.{Bearer, any_waiting}
 use Rattle.capture.specs.declared.packets.Captured.{Captured}
+pub use Rattle.capture.specs.Meaning.{first_stamp}
 use Rattle.machine.specs.declared.answers.Answer.{Answer}
 use Rattle.machine.specs.declared.answers.Answer.TheVariants.{Fetched}
 use Rattle.machine.specs.declared.calls.Call.{Call}
@@ -24,11 +25,6 @@ pub record Stage : Type 0 where
   pub coming : List Captured
   pub first : ℕ
   pub task : Option Task
-
--- the timestamp of the first packet
-abbrev pub first_stamp : List Captured → ℕ
-first_stamp [] = 0
-first_stamp (q ∷ qs) = q.microseconds
 
 -- at the start the receiver is just configured, over a board, and all packets are still to arrive
 abbrev pub start : List Bearer → List Captured → Stage
