@@ -10,6 +10,9 @@ use transcript::{LONGEST, reason, run};
 /// One byte more than a text may have: it is refused by then, whatever follows.
 const ENOUGH: u64 = LONGEST as u64 + 1;
 
+// By the rules. With fewer, a longer text would pass for one that ends there.
+const _: () = prove!(ENOUGH == 1_048_577);
+
 fn main(rt: HostRuntime) -> io::Result<ExitCode> {
     let mut text = Vec::new(rt.alloc());
     rt.stdin().take(ENOUGH).read_to_end(&mut text)?;

@@ -12,6 +12,9 @@ const LONGEST: usize = 65_536;
 /// One byte more than a capture may have. A program reads no more of its input: that is refused by then, whatever follows.
 pub const ENOUGH: u64 = LONGEST as u64 + 1;
 
+// By the rules. With fewer, a longer capture would pass for one that ends there.
+const _: () = prove!(ENOUGH == 65_537);
+
 const HEADER: usize = 24;
 
 const MAGIC: u32 = 0xA1B2_C3D4;
