@@ -1,14 +1,14 @@
 -- How the calls of a text end for a host that lends memory for the answers.
 use Rattle.std.specs.Prelude.{ℕ, cond, List, length, map, Ok, Err, Result, Some, None, Option}
+use Rattle.setup.specs.declared.boards.RawBearer.{RawBearer}
+use Rattle.setup.specs.declared.runs.RawPolicy.{RawPolicy}
+use Rattle.setup.specs.Setups.{batches_of, bearer_of, is_board}
 use Rattle.table.specs.Memory.{fits, left}
 use Rattle.transcript.specs.declared.failures.Failure.{Failure}
 use Rattle.transcript.specs.declared.failures.Failure.TheVariants.{TooLong, Unread, NoMemory}
 use Rattle.transcript.specs.Transcript.{transcript_over}
-use Rattle.boundary.specs.declared.boards.RawBearer.{RawBearer}
 use Rattle.boundary.specs.declared.calls.CallsEnd.{CallsEnd}
-use Rattle.boundary.specs.declared.calls.RawPolicy.{RawPolicy}
 use Rattle.boundary.specs.declared.statuses.TheConstants.{WRITTEN, TOO_SMALL, UNREAD, TOO_LONG, NO_BOARD, NO_MEMORY}
-use Rattle.boundary.specs.Boards.{batches_of, bearer_of, is_board}
 
 -- what is to be answered: a line for each call, or why there are none, or nothing on numbers of no board
 abbrev pub answer_to : List RawBearer → RawPolicy → List ℕ → Option (Result (List ℕ) Failure)

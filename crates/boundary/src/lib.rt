@@ -1,9 +1,7 @@
 //! The library for hosts that are not Rattle: its functions over numbers and lent bytes, by the C calling convention.
 #![tactic(auto)]
 
-mod boards;
 mod calls;
-mod eithers;
 mod replays;
 mod sizes;
 mod statuses;

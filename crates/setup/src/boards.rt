@@ -1,5 +1,5 @@
 ghost use Rattle.std.specs.Prelude.{◌≡◌, ◌≤◌, [], ◌∷◌, drop, length, map};
-ghost use Rattle.boundary.specs.Boards.{bearer_of, shown};
+ghost use Rattle.setup.specs.Setups.{bearer_of, shown};
 
 use crate::eithers::Either;
 use board::{Board, MailboxBearer, Packet, Pair, RingBearer};
@@ -10,8 +10,10 @@ pub(crate) const MOST_BEARERS: usize = 8;
 /// No ring bearer uses more slots than this.
 const SLOTS: usize = 256;
 
+type Slots = [Packet; SLOTS];
+
 /// Slots in which no packet has been.
-pub(crate) const NO_PACKETS: [Packet; SLOTS] = [Packet {
+pub(crate) const NO_PACKETS: Slots = [Packet {
     number: 0,
     length: 0,
     tag: 0,
@@ -26,7 +28,7 @@ const WAITING: Packet = Packet {
 
 /// A bearer of a board, by its numbers.
 #[repr(C)]
-#[derive(Clone, Copy)]
+#[derive(Clone, Copy, PartialEq, Eq, Debug)]
 pub struct RawBearer {
     /// As asked for: the kind cuts it.
     pub depth: usize,
@@ -41,8 +43,10 @@ pub(crate) type AnyBearer<'a> = Either<RingBearer<'a>, MailboxBearer>;
 /// A bearer alone, or before the others of a board.
 type Before<'a, B> = Either<AnyBearer<'a>, Pair<AnyBearer<'a>, B>>;
 
+type FourBefore<'a, B> = Before<'a, Before<'a, Before<'a, Before<'a, B>>>>;
+
 /// A bearer just put up, with the packet that waits in it.
-fn put_up<'a>(bearer: RawBearer, slots: &'a mut [Packet; SLOTS]) -> AnyBearer<'a>
+fn put_up<'a>(bearer: RawBearer, slots: &'a mut Slots) -> AnyBearer<'a>
     ensures value { ⟦<AnyBearer<'a> as Board>⟧.bearers result ≡ bearer_of bearer ∷ [] }
 {
     let mut board = if bearer.is_mailbox {
@@ -58,9 +62,9 @@ fn put_up<'a>(bearer: RawBearer, slots: &'a mut [Packet; SLOTS]) -> AnyBearer<'a
 }
 
 /// Puts up the first of the bearers before the others, which may be none. Without a first there is no board.
-pub(crate) fn put_before<'a, B: Board + Drop>(
+fn put_before<'a, B: Board + Drop>(
     bearers: &[RawBearer],
-    slots: &'a mut [Packet; SLOTS],
+    slots: &'a mut Slots,
     others: Option<B>,
 ) -> Option<Before<'a, B>>
     requires few { length bearers.now ≤ MOST_BEARERS }
@@ -72,6 +76,22 @@ pub(crate) fn put_before<'a, B: Board + Drop>(
         None => Either::First(first),
         Some(others) => Either::Second(Pair(first, others)),
     })
+}
+
+/// As `put_before`, of the first four.
+pub(crate) fn put_four_before<'a, B: Board + Drop>(
+    bearers: &[RawBearer],
+    slots: (&'a mut Slots, &'a mut Slots, &'a mut Slots, &'a mut Slots),
+    others: Option<B>,
+) -> Option<FourBefore<'a, B>>
+    requires few { length bearers.now ≤ MOST_BEARERS }
+    requires others { shown B.bearers others ≡ map bearer_of (drop 4 bearers.now) }
+    ensures value { shown ⟦<FourBefore<'a, B> as Board>⟧.bearers result ≡ map bearer_of bearers.now }
+{
+    let others = put_before(from(bearers, 3), slots.3, others);
+    let others = put_before(from(bearers, 2), slots.2, others);
+    let others = put_before(from(bearers, 1), slots.1, others);
+    put_before(bearers, slots.0, others)
 }
 
 /// The bearers from a number on.

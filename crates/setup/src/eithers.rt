@@ -8,7 +8,7 @@ pub(crate) enum Either<A, B> {
 }
 
 impl<A: Board, B: Board> Board for Either<A, B> {
-    ghost use Rattle.boundary.specs.Boards.{shown_by};
+    ghost use Rattle.setup.specs.Setups.{shown_by};
 
     ghost bearers = { λ x. shown_by A.bearers B.bearers x };
 

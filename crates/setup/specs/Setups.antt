@@ -6,10 +6,10 @@ use Rattle.machine.specs.Examples.{mailbox, ring}
 use Rattle.machine.specs.State.{Batches}
 use Rattle.policy.specs.Quotas.{backlog_quota, cut_figure}
 use Rattle.receiver.specs.Receivers.{batches}
-use Rattle.boundary.specs.declared.boards.RawBearer.{RawBearer}
-use Rattle.boundary.specs.declared.calls.RawPolicy.{RawPolicy}
-use Rattle.boundary.specs.declared.eithers.Either.{Either}
-use Rattle.boundary.specs.declared.eithers.Either.TheVariants.{First, Second}
+use Rattle.setup.specs.declared.boards.RawBearer.{RawBearer}
+use Rattle.setup.specs.declared.runs.RawPolicy.{RawPolicy}
+use Rattle.setup.specs.declared.eithers.Either.{Either}
+use Rattle.setup.specs.declared.eithers.Either.TheVariants.{First, Second}
 
 -- the bearers of a board that is of one type or of another
 abbrev pub shown_by : {A B : Type 0} → (A → List Bearer) → (B → List Bearer) → Either A B → List Bearer
