@@ -1,4 +1,4 @@
-//! Links the proved library: the archive that `rt lib` builds of `crates/boundary`, and the toolchain's C heap, by
+//! Links the proved library: the archive that `compare/archive` builds, and the toolchain's C heap, by
 //! which it allocates.
 
 use std::env;
@@ -12,7 +12,7 @@ fn main() {
     link(
         &manifest.join("../crates/boundary/out"),
         "boundary",
-        "build it with: (cd crates/boundary && rt lib)",
+        "build it with compare/archive",
     );
     link(
         &toolchain().join("c"),

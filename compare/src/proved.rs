@@ -3,7 +3,7 @@
 
 use crate::terms::{Bearer, Kind, Policy, Refused, Replayed};
 
-/// Beside this status, where an answer was written, each of the library's calls has others of its own.
+// The statuses of `crates/boundary` that are told apart here; any other is no answer.
 const WRITTEN: u32 = 0;
 const REFUSED: u32 = 1;
 const TOO_SMALL: u32 = 2;
@@ -123,14 +123,14 @@ fn replayed(figures: &Figures) -> Replayed {
 ///
 /// If the bearers are none or more than eight, the text cannot be read, or memory runs out.
 pub fn answers(board: &[Bearer], policy: Policy, text: &str) -> String {
-    let bearers: Vec<RawBearer> = board.iter().map(raw_bearer).collect();
+    let bearers = raw_board(board);
     let mut lines = vec![0; 64 + 8 * text.len()];
     let mut end = calls(&bearers, policy, text.as_bytes(), &mut lines);
     if end.status == TOO_SMALL {
         lines.resize(end.figure, 0);
         end = calls(&bearers, policy, text.as_bytes(), &mut lines);
     }
-    assert_eq!(end.status, WRITTEN, "no answers: {}", end.figure);
+    assert_eq!(end.status, WRITTEN, "no answers; figure {}", end.figure);
     lines.truncate(end.figure);
     String::from_utf8(lines).expect("the answers are ASCII")
 }
@@ -150,12 +150,13 @@ fn calls(bearers: &[RawBearer], policy: Policy, text: &[u8], lines: &mut [u8]) -
     }
 }
 
-fn raw_bearer(bearer: &Bearer) -> RawBearer {
-    RawBearer {
+fn raw_board(board: &[Bearer]) -> Vec<RawBearer> {
+    let raw = |bearer: &Bearer| RawBearer {
         depth: bearer.depth as usize,
         is_mailbox: bearer.kind == Kind::Mailbox,
         is_occupied: bearer.occupied,
-    }
+    };
+    board.iter().map(raw).collect()
 }
 
 /// A figure beyond 32 bits is cut to the same as the greatest within.
@@ -176,4 +177,115 @@ fn raw_policy(policy: Policy) -> RawPolicy {
 pub fn receiver_size() -> usize {
     // SAFETY: it takes nothing and answers a constant.
     unsafe { zuphlos_receiver_size() }
+}
+
+#[cfg(test)]
+mod tests {
+    use super::*;
+
+    const STANDARD: [Bearer; 3] = [
+        bearer(Kind::Ring, 8),
+        bearer(Kind::Mailbox, 4),
+        bearer(Kind::Ring, 16),
+    ];
+
+    const fn bearer(kind: Kind, depth: u64) -> Bearer {
+        Bearer {
+            kind,
+            depth,
+            occupied: false,
+        }
+    }
+
+    fn sample(name: &str) -> Vec<u8> {
+        let path = format!("{}/../samples/{name}", env!("CARGO_MANIFEST_DIR"));
+        std::fs::read(path).expect("the sample is there")
+    }
+
+    #[test]
+    fn a_replay_leaves_its_tables_in_lent_memory() {
+        let tables = ["three.packets.csv", "three.periods.csv"].map(sample);
+        let mut memory = [vec![7; 100], vec![7; 100]];
+        let [packets, periods] = &mut memory;
+        let done = replay(&sample("three.pcap"), packets, periods).expect("it is replayed");
+        assert_eq!(
+            (done.packets, done.turns, done.periods, done.delivered),
+            (3, 25, 1, 3)
+        );
+        for (memory, table) in memory.iter().zip(&tables) {
+            assert_eq!(memory[..table.len()], table[..]);
+            assert!(memory[table.len()..].iter().all(|&byte| byte == 7));
+        }
+    }
+
+    #[test]
+    fn a_refused_replay_leaves_the_memory_alone() {
+        let late = sample("late.pcap");
+        let three = sample("three.pcap");
+        let need = sample("three.packets.csv").len() as u64;
+        for (capture, number, place) in [(&late, 15, 579), (&three, 17, need)] {
+            let (mut packets, mut periods) = ([7; 95], [7; 100]);
+            let refused = replay(capture, &mut packets, &mut periods);
+            assert_eq!(refused, Err(Refused { number, place }));
+            assert!(packets.iter().chain(&periods).all(|&byte| byte == 7));
+        }
+        assert_eq!(
+            replay(&[], &mut [], &mut []),
+            Err(Refused {
+                number: 10,
+                place: 0
+            })
+        );
+    }
+
+    #[test]
+    fn a_line_is_answered_to_each_call() {
+        let text = String::from_utf8(sample("run-g.calls")).expect("the sample is a text");
+        let answered = answers(&STANDARD, Policy::Fixed(4), &text);
+        assert_eq!(answered.as_bytes(), sample("run-g.answers"));
+        assert_eq!(answers(&STANDARD, Policy::Backlog, ""), "");
+    }
+
+    #[test]
+    fn a_packet_that_waits_refuses_settings() {
+        let text = "configure 64000 32000 32 24 8 2";
+        for (depth, line) in [(1, "refused 22 place 7: "), (0, "configured\n")] {
+            let mut board = [bearer(Kind::Mailbox, 4); 8];
+            board[7] = Bearer {
+                kind: Kind::Ring,
+                depth,
+                occupied: true,
+            };
+            assert!(answers(&board, Policy::Fixed(0), text).starts_with(line));
+        }
+    }
+
+    #[test]
+    fn what_has_no_answers() {
+        let (board, policy) = (raw_board(&STANDARD), Policy::Backlog);
+        let long = vec![b' '; 1_048_577];
+        for (bearers, text, status, figure) in [
+            (
+                &board[..],
+                &b"configure 64000 32000 32 24 8 2"[..],
+                WRITTEN,
+                11,
+            ),
+            (&board, b"step", TOO_SMALL, 51),
+            (&board, b"tell\n\nwork", 3, 3),
+            (&board, &long, 4, 0),
+            (&[], b"step", 5, 0),
+        ] {
+            let mut lines = [7; 11];
+            let end = calls(bearers, policy, text, &mut lines);
+            assert_eq!((end.status, end.figure), (status, figure));
+            assert!(status == WRITTEN || lines == [7; 11]);
+        }
+    }
+
+    #[test]
+    fn a_receiver_is_not_large() {
+        // It has 2 KiB at the most beside its board and its policy, of which the mailbox's slots are the most.
+        assert!((1..=3_072).contains(&receiver_size()));
+    }
 }
