@@ -53,14 +53,14 @@ module _ {s : List (Option Held)} {d n : ℕ} {m : Mail} (is : record { depth = 
 
   -- the oldest is found
   module _ {h : Held} (e : Some h ≡ held_at s 0) where
-    pub any_left : 0 < n
-    any_left = held_within s n kept.2 0 h (sym e)
+    pub any_in : 0 < n
+    any_in = held_within s n kept.2 0 h (sym e)
 
     pub first_shown : Some h.packet ≡ slice_get (mail_packets m) 0
-    first_shown = ap (λ x. Some (packet_of x)) e ∙ line_first s n any_left ∙ ap (λ ps. slice_get ps 0) (sym packets_are)
+    first_shown = ap (λ x. Some (packet_of x)) e ∙ line_first s n any_in ∙ ap (λ ps. slice_get ps 0) (sym packets_are)
 
     pub kept_popped : (d ≤ 16) × (n - 1 ≤ d) × Numbers (map advanced s) (n - 1)
-    kept_popped = (kept.0, omega arith, numbers_advanced s n any_left kept.2)
+    kept_popped = (kept.0, omega arith, numbers_advanced s n any_in kept.2)
 
   -- with none to be found, the line is empty
   module _ (none : None ≡ held_at s 0) where

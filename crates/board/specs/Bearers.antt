@@ -22,17 +22,17 @@ abbrev pub bearer_of : List Bearer → ℕ → Bearer
 bearer_of bs b = slice_index_or bs b absent
 
 -- what holds of each bearer, at all times
-pub record Sound (x : Bearer) : Type 0 where
+pub record IsBearer (x : Bearer) : Type 0 where
   pub shallow : x.depth ≤ 256
   pub priced : 1 ≤ x.cost
   pub cheap : x.cost ≤ 2000
   pub within : length x.waiting ≤ x.depth
 
 -- what holds of a board, at all times
-pub record Lawful (bs : List Bearer) : Type 0 where
+pub record IsBoard (bs : List Bearer) : Type 0 where
   pub some : 1 ≤ length bs
   pub few : length bs ≤ 8
-  pub each : All Sound bs
+  pub each : All IsBearer bs
 
 -- one bearer is changed, and no other; for a bearer that is not shown, none is
 abbrev pub changed : List Bearer → ℕ → (Bearer → Bearer) → List Bearer
@@ -45,8 +45,9 @@ any_room ps depth = nat_lt (length ps) depth
 abbrev pub has_room : Bearer → Bool
 has_room x = any_room x.waiting x.depth
 
-abbrev pub any_waiting : List Packet → Bool
-any_waiting ps = nat_lt 0 (length ps)
+-- whether anything is in a list
+abbrev pub any_in : {A : Type 0} → List A → Bool
+any_in xs = nat_lt 0 (length xs)
 
 -- with room, the packet goes to the back, and the signal goes up if the bearer is armed
 abbrev pub after_offer : Packet → Bearer → Bearer
@@ -63,7 +64,7 @@ after_take x =
       cost = x.cost;
       waiting = drop 1 x.waiting;
       armed = x.armed;
-      signal = x.signal && any_waiting (drop 1 x.waiting);
+      signal = x.signal && any_in (drop 1 x.waiting);
     }
 
 -- an armed bearer is as it was; a disarmed one is armed, and its signal is down if nothing waits, and otherwise up if its kind raises it then
@@ -71,7 +72,7 @@ abbrev pub after_arm : Bool → Bearer → Bearer
 after_arm raises x =
     cond x.armed
     x
-    (record { depth = x.depth; cost = x.cost; waiting = x.waiting; armed = true; signal = any_waiting x.waiting && raises })
+    (record { depth = x.depth; cost = x.cost; waiting = x.waiting; armed = true; signal = any_in x.waiting && raises })
 
 abbrev pub after_disarm : Bearer → Bearer
 after_disarm x = record { depth = x.depth; cost = x.cost; waiting = x.waiting; armed = false; signal = false }

@@ -1,8 +1,11 @@
 ghost use Rattle.std.specs.Prelude.{◌≡◌, ◌≤◌, Bool, List, length};
 ghost use Rattle.std.specs.List.{slice_get};
-ghost use Rattle.board.specs.Bearers.{Bearer, Lawful, bearer_of, has_room, changed, after_offer, after_take, after_arm, after_disarm};
+ghost use Rattle.board.specs.Bearers.{Bearer, IsBoard, bearer_of, has_room, changed, after_offer, after_take, after_arm, after_disarm};
 
 use crate::packets::Packet;
+
+/// No board shows more bearers than this.
+pub const MOST_BEARERS: usize = 8;
 
 /// One to eight bearers, numbered from 0. How many there are, their depths and their costs never change.
 ///
@@ -15,7 +18,7 @@ pub trait Board {
     /// How many bearers it shows.
     fn size(&self) -> usize
         ensures value { result ≡ length (bearers self.now) }
-        ensures lawful { Lawful (bearers self.now) };
+        ensures lawful { IsBoard (bearers self.now) };
 
     /// How many packets a bearer can hold.
     fn depth(&self, bearer: usize) -> usize

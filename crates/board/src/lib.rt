@@ -8,12 +8,13 @@ mod lines;
 mod mailboxes;
 mod packets;
 mod pairs;
+mod rings;
 mod signals;
 mod singles;
 #[cfg(test)]
 mod tests;
 
-pub use boards::{Board, Looped, loopback};
-pub use packets::{Packet, class_cost};
+pub use boards::{Board, Looped, MOST_BEARERS, loopback};
+pub use packets::{HIGHEST_CLASS_COST, Packet, class_cost};
 pub use pairs::Pair;
 pub use singles::{MailboxBearer, RingBearer};

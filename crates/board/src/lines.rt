@@ -1,12 +1,9 @@
-ghost use Rattle.std.specs.Prelude.{◌≡◌, ℕ, ◌≤◌, Bool, true, List, ◌∷◌, [], ◌++◌, length, drop, if◌then◌else◌, Ok, Err};
+ghost use Rattle.std.specs.Prelude.{◌≡◌, ℕ, ◌≤◌, Bool, List, ◌∷◌, [], ◌++◌, length, drop, if◌then◌else◌, Ok, Err};
 ghost use Rattle.std.specs.List.{slice_get};
-ghost use Rattle.std.proofs.Common.{rules};
-ghost use Rattle.ring.specs.Queue.{beyond, places, held};
 ghost use Rattle.board.specs.Bearers.{any_room};
 ghost use Rattle.board.specs.declared.packets.Packet.{Packet};
 
 use crate::packets::Packet;
-use ring::Ring;
 
 /// The line of packets that wait in one bearer, and what else sets the bearer's kind apart.
 // Price and level are ghost members beside methods: a constant with a ghost member cannot stand in an `impl` that has
@@ -61,49 +58,4 @@ pub trait Line {
     ghost priced: { (1 ≤ price) × (price ≤ 2000) };
 
     ghost within: { (x : Self) → (length (packets x) ≤ room x) × (room x ≤ 256) };
-}
-
-/// A line in slots that the host lends: the first 256 of them, or all if there are fewer.
-impl<'a> Line for Ring<'a, Packet, 256> {
-    ghost use Rattle.ring.proofs.Turned.{length-held};
-
-    ghost price = { 200 };
-
-    ghost level = { true };
-
-    ghost packets = { λ r. held r };
-
-    ghost room = { λ r. places r };
-
-    ghost PushLeaves = { λ r s. beyond s ≡ beyond r };
-
-    ghost PopLeaves = { λ r s. s.slots ≡ r.slots };
-
-    ghost priced = { Prim.search rules };
-
-    ghost within = { λ r. Prim.search (rules, length-held r) };
-
-    fn cost(&self) -> u32 {
-        200
-    }
-
-    fn is_level(&self) -> bool {
-        true
-    }
-
-    fn capacity(&self) -> usize {
-        self.capacity()
-    }
-
-    fn len(&self) -> usize {
-        self.len()
-    }
-
-    fn push(&mut self, packet: Packet) -> Result<(), Packet> {
-        self.push(packet)
-    }
-
-    fn pop(&mut self) -> Option<Packet> {
-        self.pop()
-    }
 }

@@ -1,11 +1,8 @@
 ghost use Rattle.std.specs.Prelude.{◌≡◌, IfNone};
 ghost use Rattle.board.specs.Pairs.{both, Stands, PassedOn};
 
-use crate::boards::Board;
+use crate::boards::{Board, MOST_BEARERS};
 use crate::packets::Packet;
-
-/// How many bearers a board may show.
-const MOST_BEARERS: usize = 8;
 
 /// Two boards as one: the first's bearers and then the second's, eight at most.
 #[derive(Drop)]

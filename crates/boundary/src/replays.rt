@@ -1,6 +1,6 @@
 ghost use Rattle.std.specs.Prelude.{◌≡◌, Result};
 ghost use Rattle.capture.specs.Savefile.{meaning};
-ghost use Rattle.machine.specs.Examples.{four, standard_board};
+ghost use Rattle.machine.specs.Standard.{standard_board, four};
 ghost use Rattle.replay.specs.Answers.{EveryRun};
 ghost use Rattle.replay.specs.ByLedger.{RowsByLedger};
 ghost use Rattle.replay.specs.Lawful.{Lawful};

@@ -5,7 +5,8 @@ use Rattle.board.specs.declared.packets.Packet.{Packet}
 use Rattle.machine.specs.declared.answers.Answer.TheVariants.{Fetched}
 use Rattle.machine.specs.declared.calls.Call.{Call}
 use Rattle.machine.specs.declared.calls.Call.TheVariants.{Fetch}
-use Rattle.machine.specs.State.{State, Batches, out_of}
+use Rattle.machine.specs.State.{State, out_of}
+use Rattle.policy.specs.Batches.{Batches}
 use Rattle.machine.specs.Machine.{call}
 use Rattle.machine.proofs.Moved.{happens}
 use Rattle.machine.proofs.OneCall.{out_by, outs, call_refused, tell_same, finish_done, discard_done}

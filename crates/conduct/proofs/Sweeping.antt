@@ -4,7 +4,8 @@ use mathlib.Core.List.{reverse-cons}
 use Rattle.std.proofs.lemmas.List.{map_push, reverse-append}
 use Rattle.machine.specs.declared.calls.Call.TheVariants.{Discard}
 use Rattle.machine.specs.declared.refusals.Refusal.{Refusal}
-use Rattle.machine.specs.State.{State, Batches, out_of}
+use Rattle.machine.specs.State.{State, out_of}
+use Rattle.policy.specs.Batches.{Batches}
 use Rattle.machine.specs.Machine.{call}
 use Rattle.machine.specs.Numbers.{holds, times, without}
 use Rattle.machine.proofs.Loads.{counted_held}

@@ -5,7 +5,9 @@ use Rattle.machine.specs.declared.answers.Answer.{Answer}
 use Rattle.machine.specs.declared.calls.Call.{Call}
 use Rattle.machine.specs.declared.calls.Call.TheVariants.{Finish, Discard}
 use Rattle.machine.specs.declared.refusals.Refusal.{Refusal}
-use Rattle.machine.specs.State.{State, idle, Batches, out_of}
+use Rattle.machine.specs.State.{State, out_of}
+use Rattle.machine.specs.State.{put_up}
+use Rattle.policy.specs.Batches.{Batches}
 use Rattle.machine.specs.Machine.{call}
 use Rattle.machine.specs.Trace.{Entry, trace, end_of}
 use Rattle.machine.specs.Laws.{Law}
@@ -59,4 +61,4 @@ module _ (p : Batches) where
 
 -- on a receiver just put up they keep a law
 abbrev pub Keeps : Law → Batches → List Bearer → List Call → Type 0
-Keeps law p bs cs = law p bs (conducted p (idle bs) cs)
+Keeps law p bs cs = law p bs (conducted p (put_up bs) cs)

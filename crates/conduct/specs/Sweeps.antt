@@ -1,7 +1,8 @@
 -- Receipts that are spent by discard, the last first.
 use Rattle.std.specs.Prelude.{◌≡◌, cond, List, [], ◌∷◌, reverse, is_ok}
 use Rattle.machine.specs.declared.calls.Call.TheVariants.{Discard}
-use Rattle.machine.specs.State.{State, Batches}
+use Rattle.machine.specs.State.{State}
+use Rattle.policy.specs.Batches.{Batches}
 use Rattle.machine.specs.Machine.{call}
 use Rattle.receiver.specs.declared.receipts.Receipt.{Receipt}
 use Rattle.receiver.specs.Receivers.{Receiving}

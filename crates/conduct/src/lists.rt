@@ -1,7 +1,7 @@
 ghost use Rattle.std.specs.Prelude.{◌≡◌, ◌≤◌, map, IfOk, IfErr, OnOk, vec_capacity};
-ghost use Rattle.machine.specs.Laws.{ArrivalOrder, BoundedBatches, BoundedMemory, EqualTurns, LedgerAgrees, NeverDeaf, OnePlace, OneWay, Quiet, RefusalsLeave, Share, TrueAnswers, TrueRecords};
+ghost use Rattle.machine.specs.Laws.{ArrivalOrder, BoundedBatches, BoundedMemory, EqualTurns, LedgerAgrees, NoLostWakeup, OnePlace, OneWay, Quiet, RefusalsLeave, Share, TrueAnswers, TrueRecords};
 ghost use Rattle.machine.specs.Ledger.{ledger};
-ghost use Rattle.machine.specs.State.{idle};
+ghost use Rattle.machine.specs.State.{put_up};
 ghost use Rattle.receiver.specs.Receivers.{batches};
 ghost use Rattle.receiver.specs.declared.receipts.Receipt.{Receipt};
 ghost use Rattle.conduct.specs.Lists.{Keeps, after_list, after_turn, conducted, receipts_of, replies_to, reply_to};
@@ -42,8 +42,8 @@ fn make<B: Board, P: Policy>(
 ) -> Reply
     requires held { receipts.old.items ≡ receipts_of receiver.old.state }
     requires room { MOST_OUT ≤ vec_capacity receipts.old }
-    ensures value { result ≡ reply_to (batches (P.quotas receiver.old.policy) P.GREATEST) call receiver.old.state }
-    ensures after { receiver.new ≡ record receiver.old { state = after_turn (batches (P.quotas receiver.old.policy) P.GREATEST) call receiver.old.state } }
+    ensures value { result ≡ reply_to (P.meaning receiver.old.policy) call receiver.old.state }
+    ensures after { receiver.new ≡ record receiver.old { state = after_turn (P.meaning receiver.old.policy) call receiver.old.state } }
     ensures held { receipts.new.items ≡ receipts_of receiver.new.state }
     ensures room { MOST_OUT ≤ vec_capacity receipts.new }
 {
@@ -91,24 +91,24 @@ pub fn conduct<B: Board, P: Policy>(
     policy: P,
     calls: &[Call],
 ) -> Result<Conducted<B, P>, NoMemory<B, P>>
-    ensures replies { IfOk result (λ d. d.replies.items ≡ replies_to (batches (P.quotas policy) P.GREATEST) (idle (B.bearers board)) calls.now) }
-    ensures receiver { IfOk result (λ d. d.receiver ≡ record { policy = policy; state = after_list (batches (P.quotas policy) P.GREATEST) (idle (B.bearers board)) calls.now }) }
+    ensures replies { IfOk result (λ d. d.replies.items ≡ replies_to (P.meaning policy) (put_up (B.bearers board)) calls.now) }
+    ensures receiver { IfOk result (λ d. d.receiver ≡ record { policy = policy; state = after_list (P.meaning policy) (put_up (B.bearers board)) calls.now }) }
     ensures receipts { IfOk result (λ d. d.receipts.items ≡ receipts_of d.receiver.state) }
-    ensures out { IfOk result (λ d. map (λ (r : Receipt). r.number) d.receipts.items ≡ (ledger (B.bearers board) (conducted (batches (P.quotas policy) P.GREATEST) (idle (B.bearers board)) calls.now)).columns.out) }
+    ensures out { IfOk result (λ d. map (λ (r : Receipt). r.number) d.receipts.items ≡ (ledger (B.bearers board) (conducted (P.meaning policy) (put_up (B.bearers board)) calls.now)).columns.out) }
     ensures no_memory { IfErr result (λ e. e ≡ record { board = board; policy = policy }) }
-    ensures refusals_leave { OnOk result (Keeps RefusalsLeave (batches (P.quotas policy) P.GREATEST) (B.bearers board) calls.now) }
-    ensures share { OnOk result (Keeps Share (batches (P.quotas policy) P.GREATEST) (B.bearers board) calls.now) }
-    ensures true_records { OnOk result (Keeps TrueRecords (batches (P.quotas policy) P.GREATEST) (B.bearers board) calls.now) }
-    ensures ledger_agrees { OnOk result (Keeps LedgerAgrees (batches (P.quotas policy) P.GREATEST) (B.bearers board) calls.now) }
-    ensures true_answers { OnOk result (Keeps TrueAnswers (batches (P.quotas policy) P.GREATEST) (B.bearers board) calls.now) }
-    ensures one_place { OnOk result (Keeps OnePlace (batches (P.quotas policy) P.GREATEST) (B.bearers board) calls.now) }
-    ensures arrival_order { OnOk result (Keeps ArrivalOrder (batches (P.quotas policy) P.GREATEST) (B.bearers board) calls.now) }
-    ensures never_deaf { OnOk result (Keeps NeverDeaf (batches (P.quotas policy) P.GREATEST) (B.bearers board) calls.now) }
-    ensures one_way { OnOk result (Keeps OneWay (batches (P.quotas policy) P.GREATEST) (B.bearers board) calls.now) }
-    ensures equal_turns { OnOk result (Keeps EqualTurns (batches (P.quotas policy) P.GREATEST) (B.bearers board) calls.now) }
-    ensures bounded_batches { OnOk result (Keeps BoundedBatches (batches (P.quotas policy) P.GREATEST) (B.bearers board) calls.now) }
-    ensures quiet { OnOk result (Keeps Quiet (batches (P.quotas policy) P.GREATEST) (B.bearers board) calls.now) }
-    ensures bounded_memory { OnOk result (Keeps BoundedMemory (batches (P.quotas policy) P.GREATEST) (B.bearers board) calls.now) }
+    ensures refusals_leave { OnOk result (Keeps RefusalsLeave (P.meaning policy) (B.bearers board) calls.now) }
+    ensures share { OnOk result (Keeps Share (P.meaning policy) (B.bearers board) calls.now) }
+    ensures true_records { OnOk result (Keeps TrueRecords (P.meaning policy) (B.bearers board) calls.now) }
+    ensures ledger_agrees { OnOk result (Keeps LedgerAgrees (P.meaning policy) (B.bearers board) calls.now) }
+    ensures true_answers { OnOk result (Keeps TrueAnswers (P.meaning policy) (B.bearers board) calls.now) }
+    ensures one_place { OnOk result (Keeps OnePlace (P.meaning policy) (B.bearers board) calls.now) }
+    ensures arrival_order { OnOk result (Keeps ArrivalOrder (P.meaning policy) (B.bearers board) calls.now) }
+    ensures no_lost_wakeup { OnOk result (Keeps NoLostWakeup (P.meaning policy) (B.bearers board) calls.now) }
+    ensures one_way { OnOk result (Keeps OneWay (P.meaning policy) (B.bearers board) calls.now) }
+    ensures equal_turns { OnOk result (Keeps EqualTurns (P.meaning policy) (B.bearers board) calls.now) }
+    ensures bounded_batches { OnOk result (Keeps BoundedBatches (P.meaning policy) (B.bearers board) calls.now) }
+    ensures quiet { OnOk result (Keeps Quiet (P.meaning policy) (B.bearers board) calls.now) }
+    ensures bounded_memory { OnOk result (Keeps BoundedMemory (P.meaning policy) (B.bearers board) calls.now) }
 {
     let Ok(mut replies) = Vec::with_capacity(alloc, calls.len()) else {
         return Err(NoMemory { board, policy });

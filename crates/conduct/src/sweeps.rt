@@ -21,8 +21,8 @@ impl<B: Board, P: Policy> Conducted<B, P> {
     /// `conduct` leaves, none is refused.
     #[tactic(auto, using(crate::proofs::Sweeping::all_spent))]
     pub fn sweep(mut self) -> Result<Swept<B, P>, Conducted<B, P>>
-        ensures spent { IfOk result (λ s. Sweeps (batches (P.quotas self.receiver.policy) P.GREATEST) self.receiver self.receipts.items s.receiver []) }
-        ensures refused { IfErr result (λ d. Sweeps (batches (P.quotas self.receiver.policy) P.GREATEST) self.receiver self.receipts.items d.receiver d.receipts.items) }
+        ensures spent { IfOk result (λ s. Sweeps (P.meaning self.receiver.policy) self.receiver self.receipts.items s.receiver []) }
+        ensures refused { IfErr result (λ d. Sweeps (P.meaning self.receiver.policy) self.receiver self.receipts.items d.receiver d.receipts.items) }
         ensures some_left { IfErr result (λ d. d.receipts.items ≢ []) }
         ensures replies { MatchResult result (λ s. s.replies ≡ self.replies) (λ d. d.replies ≡ self.replies) }
         ensures all_out { self.receipts.items ≡ receipts_of self.receiver.state → IsOk result }

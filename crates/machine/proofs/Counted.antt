@@ -6,19 +6,20 @@ use Rattle.std.proofs.lemmas.Bool.{cases_lt, cond_both, ltb-true, ltb-false, not
 use Rattle.std.proofs.lemmas.List.{length-append, get_or_past}
 use Rattle.std.proofs.lemmas.List.Sums.{sum-map, sum_by-cons, sum_by-set}
 use Rattle.board.specs.declared.packets.Packet.{Packet}
-use Rattle.board.specs.Bearers.{Bearer, absent, bearer_of, changed, any_waiting, after_take, after_arm, after_disarm}
+use Rattle.board.specs.Bearers.{Bearer, absent, bearer_of, changed, any_in, after_take, after_arm, after_disarm}
 use Rattle.machine.specs.declared.answers.Answer.{Answer}
 use Rattle.machine.specs.declared.answers.Counts.{Counts}
 use Rattle.machine.specs.declared.calls.Call.{Call}
-use Rattle.machine.specs.declared.calls.RawSettings.{RawSettings}
-use Rattle.machine.specs.State.{Clock, Core, Batches, waits}
+use Rattle.machine.specs.Settings.{Settings}
+use Rattle.machine.specs.State.{Clock, Core, waits}
+use Rattle.policy.specs.Batches.{Batches}
 use Rattle.machine.specs.Moves.{is_over, one_numbered, one_queue_full, set_gate}
 use Rattle.machine.specs.Calls.{next_packet}
 use Rattle.machine.specs.Machine.{waiting_checks}
 use Rattle.machine.specs.Numbers.{holds, without}
 use Rattle.machine.specs.Laws.{accounted}
 use Rattle.machine.proofs.Basics.{length-without}
-use Rattle.machine.proofs.Moved.{behind, Move, lost, stored, signalled, begun, emptied, taken, rescheduled, completed, worked, fetched, finished, discarded, told, Passed, Allowed}
+use Rattle.machine.proofs.Moved.{behind, Move, lost, stored, signalled, begun, emptied, taken, rescheduled, completed, worked, fetched, finished, discarded, told, Passed, unretired}
 use Rattle.machine.proofs.Periods.{settled}
 use Rattle.machine.proofs.Unmoved.{Unmoved, armed_same, unmoved_bearers, gate_unmoved}
 
@@ -30,7 +31,7 @@ pub record Counted (size : ℕ) (bs : List Bearer) (q : List Packet) (o : List �
   pub numbered : n.numbered ≤ 1000000000
   pub closed : periods ≤ 1000000000
 
-abbrev pub CountedCore : RawSettings → Core → Type 0
+abbrev pub CountedCore : Settings → Core → Type 0
 CountedCore s x = Counted s.size x.bearers x.queue x.out x.counts x.clock.closed
 
 -- how many wait in a bearer, and in all
@@ -51,7 +52,7 @@ one_left bs b p rest w =
     omega (arith, sum_by-set waiting_in bs b (after_take (bearer_of bs b)) absent (waits_shown bs b p rest w), ap length w, ap (λ ps. length (drop 1 ps)) w)
 
 -- one period more is closed, at the most
-closes_few : (s : RawSettings) (k : Clock) → k.closed < 1000000000 → (settled s k).closed ≤ 1000000000
+closes_few : (s : Settings) (k : Clock) → k.closed < 1000000000 → (settled s k).closed ≤ 1000000000
 closes_few s k h = cond_both (is_over s k) _ _ (λ (l : Clock). l.closed ≤ 1000000000) (λ _. omega arith) (λ _. omega arith)
 
 module _ {size : ℕ} {bs : List Bearer} {q : List Packet} {o : List ℕ} {n : Counts} {periods : ℕ} (t : Counted size bs q o n periods) where
@@ -110,41 +111,41 @@ module _ {size : ℕ} {bs : List Bearer} {q : List Packet} {o : List ℕ} {n : C
     closed = t.closed;
   }
 
-module _ (s : RawSettings) (p : Batches) (x : Core) (t : CountedCore s x) where
-  pub move_counted : (c : Call) (a : Answer) (y : Core) → Move s p x c a y → Allowed x c → CountedCore s y
-  move_counted _ _ _ (lost l r) k = record {
+module _ (s : Settings) (p : Batches) (x : Core) (t : CountedCore s x) where
+  pub move_counted : (c : Call) (a : Answer) (y : Core) → Move s p x c a y → CountedCore s y
+  move_counted _ _ _ (lost l r live) = record {
     queue = t.queue;
     out = t.out;
     counted = omega (arith, t.counted);
-    numbered = omega (arith, k.numbered);
+    numbered = omega (arith, (unretired x live).numbered);
     closed = t.closed;
   }
-  move_counted _ _ _ (stored {b = b} {n = n} {t = tag} l r h) k =
-      one_more t b (behind (next_packet n tag x)) x.clock.closed l k.numbered t.closed (length-append (waits x.bearers b) _)
-  move_counted _ _ _ (signalled {b = b} {n = n} {t = tag} l r h) k =
-      one_more t b (λ v. after_disarm (behind (next_packet n tag x) v)) _ l k.numbered (closes_few s _ k.closed) (length-append (waits x.bearers b) _)
-  move_counted _ _ _ (begun e i u z) k = reclosed t _ (closes_few s _ k.closed)
-  move_counted _ _ _ (emptied {g = g} e w n) k = reshown t g.bearer after_take (cc w)
-  move_counted _ _ _ (taken {g = g} {q = q} {rest = rest} {room = room} e w n less r) k =
-      one_taken t g.bearer q rest _ w (closes_few s _ k.closed) room r
-  move_counted _ _ _ (rescheduled e) k = t
-  move_counted _ _ _ (completed {g = g} {o = o} e w r) k =
+  move_counted _ _ _ (stored {b = b} {n = n} {t = tag} l r h live) =
+      one_more t b (behind (next_packet n tag x)) x.clock.closed l (unretired x live).numbered t.closed (length-append (waits x.bearers b) _)
+  move_counted _ _ _ (signalled {b = b} {n = n} {t = tag} l r h live) =
+      one_more t b (λ v. after_disarm (behind (next_packet n tag x) v)) _ l (unretired x live).numbered (closes_few s _ (unretired x live).closed) (length-append (waits x.bearers b) _)
+  move_counted _ _ _ (begun e i u z live) = reclosed t _ (closes_few s _ (unretired x live).closed)
+  move_counted _ _ _ (emptied {g = g} e w n _) = reshown t g.bearer after_take (cc w)
+  move_counted _ _ _ (taken {g = g} {q = q} {rest = rest} {room = room} e w n less r live) =
+      one_taken t g.bearer q rest _ w (closes_few s _ (unretired x live).closed) room r
+  move_counted _ _ _ (rescheduled e _) = t
+  move_counted _ _ _ (completed {g = g} {o = o} e w r _) =
       cond_both o _ _ (λ (bs : List Bearer). Counted s.size bs x.queue x.out x.counts x.clock.closed)
       (λ _. reshown t g.bearer (after_arm false) (ap waiting_in (armed_same false (bearer_of x.bearers g.bearer)))) (λ _. t)
-  move_counted _ _ _ (worked h) k = reclosed t _ (closes_few s _ k.closed)
-  move_counted _ _ _ (fetched {q = q} {rest = rest} e) k = record {
+  move_counted _ _ _ (worked h live) = reclosed t _ (closes_few s _ (unretired x live).closed)
+  move_counted _ _ _ (fetched {q = q} {rest = rest} e few) = record {
     queue = omega (arith, t.queue, ap length e);
-    out = omega (arith, k, length-append x.out (q.number ∷ []));
+    out = omega (arith, few, length-append x.out (q.number ∷ []));
     counted = omega (arith, t.counted, ap length e, length-append x.out (q.number ∷ []));
     numbered = t.numbered;
     closed = t.closed;
   }
-  move_counted _ _ _ (finished {n = n} h) k = one_spent t n _ h refl (omega arith)
-  move_counted _ _ _ (discarded {n = n} h) k = one_spent t n _ h refl (omega arith)
-  move_counted _ _ _ told k = t
+  move_counted _ _ _ (finished {n = n} h) = one_spent t n _ h refl (omega arith)
+  move_counted _ _ _ (discarded {n = n} h) = one_spent t n _ h refl (omega arith)
+  move_counted _ _ _ told = t
 
 -- the gate's setting
-pub gate_counted : (s : RawSettings) (x y : Core) → CountedCore s y → CountedCore s (set_gate s x y)
+pub gate_counted : (s : Settings) (x y : Core) → CountedCore s y → CountedCore s (set_gate s x y)
 gate_counted s x y t =
     let z : Core = set_gate s x y in
     let u : Unmoved y z = gate_unmoved s x y in
@@ -160,4 +161,4 @@ gate_counted s x y t =
 pub fresh_waiting : (i : ℕ) (bs : List Bearer) → Passed (waiting_checks i bs) → sum_by waiting_in (map (λ v. after_arm false (after_disarm v)) bs) ≡ 0
 fresh_waiting i [] h = refl
 fresh_waiting i (v ∷ bs) h =
-    omega (arith, fresh_waiting (i + 1) bs h.1, ltb-false 0 (length v.waiting) (not-true (any_waiting v.waiting) h.0), sum_by-cons waiting_in)
+    omega (arith, fresh_waiting (i + 1) bs h.1, ltb-false 0 (length v.waiting) (not-true (any_in v.waiting) h.0), sum_by-cons waiting_in)

@@ -2,13 +2,14 @@
 use Rattle.std.proofs.Common.{◌≡◌, ℕ, zero, suc, ◌+◌, ◌<◌, ◌≤◌, Bool, true, false, cond, List, [], ◌∷◌, ◌++◌, length, Option, sym, refl, ◌∙◌, subst, ⊎_elim, arith}
 use Rattle.std.proofs.lemmas.Bool.{cases_eq, cond_both}
 use Rattle.std.proofs.lemmas.List.{length-set}
-use Rattle.board.specs.Bearers.{Bearer, absent, bearer_of, changed, any_waiting, after_arm, after_disarm}
+use Rattle.board.specs.Bearers.{Bearer, absent, bearer_of, changed, any_in, after_arm, after_disarm}
 use Rattle.board.proofs.Changes.{changed_twice}
-use Rattle.machine.specs.declared.calls.RawSettings.{RawSettings}
+use Rattle.machine.specs.Tidy.{busy_count, ways, Calm, TidyCore}
+use Rattle.machine.specs.Settings.{Settings}
 use Rattle.machine.specs.State.{Grant, Core, waits, busy, is_open}
 use Rattle.machine.specs.Moves.{arm, join, open_bearer, on_each, open_gate, shut_gate, set_gate}
 use Rattle.machine.proofs.Basics.{at_changed, on_changed, at_mapped, none_left, past_disarmed, on_each_keeps, times-append}
-use Rattle.machine.proofs.Loads.{turns, load, Calm, calm_armed, calm_disarmed, TidyCore, busy_turns, free_turns}
+use Rattle.machine.proofs.Loads.{calm_armed, calm_disarmed, busy_turns, free_turns}
 use Rattle.machine.proofs.Unmoved.{unmoved_opened}
 
 -- of moves on each bearer in turn: what each reaches at its own bearer and every move keeps
@@ -27,19 +28,19 @@ on_each_reaches P Q move keep reach stay i (suc n) x h c low high =
 record Opening (n : ℕ) (bs : List Bearer) (l : List ℕ) (g : Option Grant) : Type 0 where
   size : length bs ≡ n
   calm : (b : ℕ) → Calm (bearer_of bs b)
-  once : (b : ℕ) → load bs l g b ≤ 1
+  once : (b : ℕ) → ways bs l g b ≤ 1
 
 abbrev OpeningCore : ℕ → Core → Type 0
 OpeningCore n x = Opening n x.bearers x.listed x.grant
 
 abbrev Ready : ℕ → ℕ → Core → Type 0
-Ready n c x = c < n → 1 ≤ load x.bearers x.listed x.grant c
+Ready n c x = c < n → 1 ≤ ways x.bearers x.listed x.grant c
 
 -- one bearer opened: it is armed, listed or served once, and no other is touched
 record Opened (n b : ℕ) (x y : Core) : Type 0 where
   opening : OpeningCore n y
   ready : Ready n b y
-  others : (c : ℕ) → (c ≡ b → ⊥) → load y.bearers y.listed y.grant c ≡ load x.bearers x.listed x.grant c
+  others : (c : ℕ) → (c ≡ b → ⊥) → ways y.bearers y.listed y.grant c ≡ ways x.bearers x.listed x.grant c
 
 module _ (n b : ℕ) (x : Core) (h : OpeningCore n x) where
   same_opened : busy x b ≡ true → Opened n b x x
@@ -52,11 +53,11 @@ module _ (n b : ℕ) (x : Core) (h : OpeningCore n x) where
         opening = record {
           size = length-set x.bearers b _ ∙ h.size;
           calm = λ c. on_changed Calm x.bearers b c (after_arm false) (calm_armed (bearer_of x.bearers b) (h.calm b).quiet w) (h.calm c);
-          once = λ c. at_changed (λ y. cond y.armed 1 0 + turns x.listed x.grant c ≤ 1) x.bearers b c (after_arm false) (λ i _. rw i (grind arith)) (λ _. h.once c);
+          once = λ c. at_changed (λ y. cond y.armed 1 0 + busy_count x.listed x.grant c ≤ 1) x.bearers b c (after_arm false) (λ i _. rw i (grind arith)) (λ _. h.once c);
         };
-        ready = λ i. at_changed (λ y. 1 ≤ cond y.armed 1 0 + turns x.listed x.grant b) x.bearers b b (after_arm false)
+        ready = λ i. at_changed (λ y. 1 ≤ cond y.armed 1 0 + busy_count x.listed x.grant b) x.bearers b b (after_arm false)
             (λ _ _. grind arith) (λ k. absurd (omega (arith, k refl, h.size)));
-        others = λ c k. at_changed (λ y. cond y.armed 1 0 + turns x.listed x.grant c ≡ load x.bearers x.listed x.grant c) x.bearers b c (after_arm false) (λ i _. absurd (k i)) (λ _. refl);
+        others = λ c k. at_changed (λ y. cond y.armed 1 0 + busy_count x.listed x.grant c ≡ ways x.bearers x.listed x.grant c) x.bearers b c (after_arm false) (λ i _. absurd (k i)) (λ _. refl);
       }
 
   listed_opened : busy x b ≡ false → Opened n b x (join b (record x { bearers = changed x.bearers b (λ v. after_disarm (after_arm false v)) }))
@@ -68,21 +69,21 @@ module _ (n b : ℕ) (x : Core) (h : OpeningCore n x) where
         opening = record {
           size = length-set x.bearers b _ ∙ h.size;
           calm = λ c. on_changed Calm x.bearers b c f (calm_disarmed (after_arm false (bearer_of x.bearers b))) (h.calm c);
-          once = λ c. at_changed (λ y. cond y.armed 1 0 + turns l x.grant c ≤ 1) x.bearers b c f
+          once = λ c. at_changed (λ y. cond y.armed 1 0 + busy_count l x.grant c ≤ 1) x.bearers b c f
               (λ i _. rw i (grind (arith, times-append)))
               (λ k. ⊎_elim
               (λ (i : c ≡ b). rw i (grind (arith, past_disarmed x.bearers b (k i), times-append)))
               (λ (m : c ≡ b → ⊥). grind (arith, h.once c, times-append)) (cases_eq c b));
         };
-        ready = λ _. at_changed (λ y. 1 ≤ cond y.armed 1 0 + turns l x.grant b) x.bearers b b f
+        ready = λ _. at_changed (λ y. 1 ≤ cond y.armed 1 0 + busy_count l x.grant b) x.bearers b b f
             (λ _ _. grind (arith, times-append)) (λ _. grind (arith, times-append));
-        others = λ c k. at_changed (λ y. cond y.armed 1 0 + turns l x.grant c ≡ load x.bearers x.listed x.grant c) x.bearers b c f (λ i _. absurd (k i))
+        others = λ c k. at_changed (λ y. cond y.armed 1 0 + busy_count l x.grant c ≡ ways x.bearers x.listed x.grant c) x.bearers b c f (λ i _. absurd (k i))
             (λ _. grind (arith, times-append));
       }
 
   step_opened : Opened n b x (open_bearer b x)
   step_opened = cond_both (busy x b) _ _ (Opened n b x) same_opened
-      (λ e. cond_both (any_waiting (waits x.bearers b)) _ _ (Opened n b x)
+      (λ e. cond_both (any_in (waits x.bearers b)) _ _ (Opened n b x)
       (λ _. subst (λ (k : List Bearer). Opened n b x (join b (record x { bearers = k }))) (sym (changed_twice x.bearers b (after_arm false) after_disarm)) (listed_opened e))
       (λ w. armed_opened e (none_left (waits x.bearers b) w)))
 
@@ -112,12 +113,12 @@ shut_tidy : (gate : Bool) (x : Core) → TidyCore gate x → TidyCore false (shu
 unfolding shut_gate
 shut_tidy gate x t = record {
   calm = λ b. at_mapped Calm after_disarm x.bearers b (calm_disarmed absent) (calm_disarmed (bearer_of x.bearers b));
-  once = λ b. at_mapped (λ y. cond y.armed 1 0 + turns x.listed x.grant b ≤ 1) after_disarm x.bearers b (omega (arith, t.once b)) (omega (arith, t.once b));
+  once = λ b. at_mapped (λ y. cond y.armed 1 0 + busy_count x.listed x.grant b ≤ 1) after_disarm x.bearers b (omega (arith, t.once b)) (omega (arith, t.once b));
   shut = λ _ b. at_mapped (λ y. y.armed ≡ false) after_disarm x.bearers b refl refl;
   ready = λ e. cc e;
 }
 
-pub gate_tidy : (s : RawSettings) (x y : Core) → TidyCore (is_open s x) y → TidyCore (is_open s (set_gate s x y)) (set_gate s x y)
+pub gate_tidy : (s : Settings) (x y : Core) → TidyCore (is_open s x) y → TidyCore (is_open s (set_gate s x y)) (set_gate s x y)
 unfolding set_gate shut_gate
 gate_tidy s x y t =
     cond_both (is_open s x) _ _ TidyAt

@@ -4,6 +4,7 @@ pub mod Batches
 pub mod Counted
 pub mod Gate
 pub mod Kept
+pub mod Lawful
 pub mod Lines
 pub mod Listed
 pub mod Loads

@@ -3,15 +3,17 @@
 use Rattle.std.proofs.Common.{◌≡◌, ℕ, zero, suc, ◌<◌, ◌≤◌, Bool, false, List, [], ◌∷◌, length, None, refl, ap, ◌∙◌, ⊎_elim, arith}
 use Rattle.std.proofs.lemmas.Bool.{cases_eq, cond_both}
 use Rattle.std.proofs.lemmas.List.{length-set, length-map}
-use Rattle.board.specs.Bearers.{Bearer, after_disarm, any_waiting}
+use Rattle.board.specs.Bearers.{Bearer, after_disarm, any_in}
+use Rattle.machine.specs.Tidy.{busy_count, TidyCore, OnlyShown, Openable}
 use Rattle.machine.specs.declared.answers.Answer.{Answer}
 use Rattle.machine.specs.declared.calls.Call.{Call}
-use Rattle.machine.specs.declared.calls.RawSettings.{RawSettings}
-use Rattle.machine.specs.State.{Core, Batches, waits, busy, is_open}
+use Rattle.machine.specs.Settings.{Settings}
+use Rattle.machine.specs.State.{Core, waits, busy, is_open}
+use Rattle.policy.specs.Batches.{Batches}
 use Rattle.machine.specs.Moves.{open_bearer, open_gate, shut_gate, set_gate}
 use Rattle.machine.specs.Numbers.{holds, times, without}
 use Rattle.machine.proofs.Basics.{tested, on_each_keeps, times-append, times-without, length-without}
-use Rattle.machine.proofs.Loads.{turns, TidyCore, free_times, free_turns}
+use Rattle.machine.proofs.Loads.{free_times, free_turns}
 use Rattle.machine.proofs.Moved.{Move, stored, signalled, begun, emptied, taken, rescheduled, completed}
 
 -- of numbers below n, none of them twice, there are at most n, and fewer if one is missing
@@ -37,16 +39,10 @@ pub room_in : (n : ℕ) (l : List ℕ) → ((b : ℕ) → times b l ≤ 1) → (
 room_in n l once below b i none =
     let k = fits_in n (b ∷ l) (λ c. grind (arith, once c)) (λ c j. grind (arith, below c j)) in omega (arith, k)
 
--- A board of n bearers, between the gate's steps: each is listed once at most, and only those that are shown are listed or served.
-pub record Openable (n : ℕ) (x : Core) : Type 0 where
-  pub size : length x.bearers ≡ n
-  pub once : (b : ℕ) → times b x.listed ≤ 1
-  pub shown : (b : ℕ) → n ≤ b → turns x.listed x.grant b ≡ 0
-
 pub openable_step : (n b : ℕ) (x : Core) → Openable n x → b < n → Openable n (open_bearer b x)
 openable_step n b x h l =
     cond_both (busy x b) _ _ (Openable n) (λ _. h)
-    (λ e. cond_both (any_waiting (waits x.bearers b)) _ _ (Openable n)
+    (λ e. cond_both (any_in (waits x.bearers b)) _ _ (Openable n)
     (λ _. record {
       size = length-set _ b _ ∙ (length-set x.bearers b _ ∙ h.size);
       once = λ c. grind (arith, h.once c, times-append, free_turns x b e);
@@ -58,20 +54,16 @@ pub openable_room : (n b : ℕ) (x : Core) → Openable n x → b < n → busy x
 openable_room n b x h l e =
     room_in n x.listed h.once (λ c i. omega (arith, h.shown c i)) b l (omega (arith, free_turns x b e))
 
--- what is so of the bearers that are not shown
-abbrev pub OnlyShown : Core → Type 0
-OnlyShown x = (b : ℕ) → length x.bearers ≤ b → turns x.listed x.grant b ≡ 0
-
-module _ (s : RawSettings) (p : Batches) (x : Core) where
+module _ (s : Settings) (p : Batches) (x : Core) where
   pub move_shown : OnlyShown x → (c : Call) (a : Answer) (y : Core) → Move s p x c a y → OnlyShown y
-  move_shown h _ _ _ (stored l r e) = λ c i. h c (omega (arith, length-set {A = Bearer}))
-  move_shown h _ _ _ (signalled l r e) = λ c i.
+  move_shown h _ _ _ (stored l r e _) = λ c i. h c (omega (arith, length-set {A = Bearer}))
+  move_shown h _ _ _ (signalled l r e _) = λ c i.
       let k : length x.bearers ≤ c = omega (arith, length-set {A = Bearer}) in grind (arith, h c k, times-append)
-  move_shown h _ _ _ (begun e i u z) = λ c k. omega (arith, h c k, ap (times c) i)
-  move_shown h _ _ _ (emptied e w n) = λ c i. let k : length x.bearers ≤ c = omega (arith, length-set {A = Bearer}) in grind (arith, h c k)
-  move_shown h _ _ _ (taken e w n less r) = λ c i. let k : length x.bearers ≤ c = omega (arith, length-set {A = Bearer}) in grind (arith, h c k)
-  move_shown h _ _ _ (rescheduled e) = λ c i. grind (arith, h c i, times-append)
-  move_shown h _ _ _ (completed {o = o} e w r) = λ c. cond_both o _ _ (λ (bs : List Bearer). length bs ≤ c → turns x.listed None c ≡ 0)
+  move_shown h _ _ _ (begun e i u z _) = λ c k. omega (arith, h c k, ap (times c) i)
+  move_shown h _ _ _ (emptied e w n _) = λ c i. let k : length x.bearers ≤ c = omega (arith, length-set {A = Bearer}) in grind (arith, h c k)
+  move_shown h _ _ _ (taken e w n less r _) = λ c i. let k : length x.bearers ≤ c = omega (arith, length-set {A = Bearer}) in grind (arith, h c k)
+  move_shown h _ _ _ (rescheduled e _) = λ c i. grind (arith, h c i, times-append)
+  move_shown h _ _ _ (completed {o = o} e w r _) = λ c. cond_both o _ _ (λ (bs : List Bearer). length bs ≤ c → busy_count x.listed None c ≡ 0)
       (λ _ i. let k : length x.bearers ≤ c = omega (arith, length-set {A = Bearer}) in omega (arith, h c k))
       (λ _ i. omega (arith, h c i))
   move_shown h _ _ _ _ = h
@@ -80,7 +72,7 @@ pub tidy_openable : (gate : Bool) (x : Core) → TidyCore gate x → OnlyShown x
 tidy_openable gate x t h = record { size = refl; once = λ b. omega (arith, t.once b); shown = h }
 
 -- the gate's setting
-pub gate_shown : (s : RawSettings) (x y : Core) → Openable (length y.bearers) y → OnlyShown (set_gate s x y)
+pub gate_shown : (s : Settings) (x y : Core) → Openable (length y.bearers) y → OnlyShown (set_gate s x y)
 unfolding set_gate open_gate shut_gate
 gate_shown s x y h =
     cond_both (is_open s x) _ _ OnlyShown

@@ -12,7 +12,8 @@ use Rattle.machine.specs.declared.answers.Progress.TheVariants.{Begun, Empty, Ta
 use Rattle.machine.specs.declared.calls.Call.{Call}
 use Rattle.machine.specs.declared.calls.Call.TheVariants.{Configure, Arrive, Step, Work, Fetch, Finish, Discard, Tell}
 use Rattle.machine.specs.declared.refusals.Refusal.{Refusal}
-use Rattle.machine.specs.State.{Batches, idle}
+use Rattle.machine.specs.State.{put_up}
+use Rattle.policy.specs.Batches.{Batches}
 use Rattle.machine.specs.Trace.{Entry, trace}
 use Rattle.machine.specs.Ledger.{Ledger, column, arrives, stepped, progress_in, queue_room, column_room, told, depths_of, ledger}
 use Rattle.machine.specs.Laws.{Always, TrueStep, Truly, TrueAnswers, fetched_by, arrived_by, comes_on, if_accepted, fetches, arrivals, ArrivalOrder}
@@ -148,7 +149,7 @@ stands_at n (m ∷ ns) h =
 
 pub arrival_order : Always ArrivalOrder
 arrival_order p q bs cs b m n arrived_m arrived_n fetched =
-    let s = in_order p bs (trace p (idle bs) cs) (true_answers p q bs cs) in
-    let k = stands_at m (arrivals b (trace p (idle bs) cs)) arrived_m in
-    let l = stands_at n (arrivals b (trace p (idle bs) cs)) arrived_n in
+    let s = in_order p bs (trace p (put_up bs) cs) (true_answers p q bs cs) in
+    let k = stands_at m (arrivals b (trace p (put_up bs) cs)) arrived_m in
+    let l = stands_at n (arrivals b (trace p (put_up bs) cs)) arrived_n in
     (k.0, l.0, order_places s.0 (s.1 s.0 (λ _ _. refl)) b fetched.0 fetched.1 k.0 l.0 m n fetched.2 fetched.3 k.1 fetched.4 l.1, k.1, l.1)

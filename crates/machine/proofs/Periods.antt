@@ -1,7 +1,8 @@
 -- The accounts of the periods: what each offered the application, and what bearers may still use in the open one.
 use Rattle.std.proofs.Common.{◌≡◌, ℕ, ◌+◌, ◌<◌, ◌≤◌, cond, eqb, arith, ◌∙◌, refl, sym, Some, None, Option}
 use Rattle.std.proofs.lemmas.Bool.{cond_both, leb-true}
-use Rattle.machine.specs.declared.calls.RawSettings.{RawSettings}
+use Rattle.machine.specs.Funded.{Accounts}
+use Rattle.machine.specs.Settings.{Settings}
 use Rattle.machine.specs.State.{Clock}
 use Rattle.machine.specs.Moves.{is_over, next_period}
 use Rattle.machine.specs.Laws.{LastRecorded}
@@ -17,26 +18,15 @@ same_record : (period : ℕ) (f h : ℕ → ℕ) (closed : ℕ) (last : Option P
 same_record period f h closed None same r = r
 same_record period f h closed (Some d) same r = (r.0, r.1, r.2 ∙ sym (same r.0 (omega (arith, r.1))), r.3)
 
-module _ (s : RawSettings) where
+module _ (s : Settings) where
   -- the clock, with the period closed if it is over
   abbrev pub settled : Clock → Clock
   settled k = cond (is_over s k) (next_period s k) k
 
   module _ (most : ℕ) where
-    -- the accounts f agree with the clock; what bearers have used and what is due are together below `most`, and each closed period
-    -- offered more than the period less `most`
-    pub record Accounts (f : ℕ → ℕ) (k : Clock) (due : ℕ) : Type 0 where
-      pub spent : k.elapsed ≡ k.used + f k.closed
-      pub offered : k.offered ≡ f k.closed
-      pub recorded : LastRecorded s.period f k.closed k.last
-      pub fits : f k.closed ≤ s.period
-      pub bound : k.used + due + 1 ≤ most
-      pub before : (j : ℕ) → j < k.closed → s.period + 1 ≤ f j + most
-      pub later : (j : ℕ) → k.closed < j → f j ≡ 0
-
     -- time goes on in the period, with o cycles offered
-    pub runs_on : {f h : ℕ → ℕ} {k l : Clock} {due left o : ℕ} → Accounts f k due → Booked f k o h → l.closed ≡ k.closed →
-        l.offered ≡ k.offered + o → l.last ≡ k.last → l.elapsed + k.used ≡ k.elapsed + l.used + o → l.used + left + 1 ≤ most → f k.closed + o ≤ s.period → Accounts h l left
+    pub runs_on : {f h : ℕ → ℕ} {k l : Clock} {due left o : ℕ} → Accounts s most f k due → Booked f k o h → l.closed ≡ k.closed →
+        l.offered ≡ k.offered + o → l.last ≡ k.last → l.elapsed + k.used ≡ k.elapsed + l.used + o → l.used + left + 1 ≤ most → f k.closed + o ≤ s.period → Accounts s most h l left
     runs_on {f = f} {h = h} {k = k} {l = l} a b c d r e u w = record {
       spent = grind (arith, a.spent, b.each l.closed);
       offered = grind (arith, a.offered, b.each l.closed);
@@ -48,10 +38,10 @@ module _ (s : RawSettings) where
     }
 
     -- a period that closes offered what bearers did not use
-    pub settles : {f : ℕ → ℕ} {due : ℕ} (k : Clock) → Accounts f k due → Accounts f (settled k) due
-    settles {f = f} {due = due} k a = cond_both (is_over s k) _ _ (λ (l : Clock). Accounts f l due) (λ e. closes (leb-true s.period k.elapsed e)) (λ _. a)
+    pub settles : {f : ℕ → ℕ} {due : ℕ} (k : Clock) → Accounts s most f k due → Accounts s most f (settled k) due
+    settles {f = f} {due = due} k a = cond_both (is_over s k) _ _ (λ (l : Clock). Accounts s most f l due) (λ e. closes (leb-true s.period k.elapsed e)) (λ _. a)
       where
-        closes : s.period ≤ k.elapsed → Accounts f (next_period s k) due
+        closes : s.period ≤ k.elapsed → Accounts s most f (next_period s k) due
         closes i = record {
           spent = omega (arith, a.spent, a.fits, a.later (k.closed + 1));
           offered = sym (a.later (k.closed + 1) (omega arith));

@@ -8,7 +8,7 @@ use Rattle.machine.specs.declared.answers.Progress.TheVariants.{Begun, Empty, Ta
 use Rattle.machine.specs.declared.calls.Call.{Call}
 use Rattle.machine.specs.declared.calls.Call.TheVariants.{Configure, Arrive, Step, Work, Fetch, Finish, Discard, Tell}
 use Rattle.machine.specs.declared.refusals.Refusal.{Refusal}
-use Rattle.machine.specs.State.{idle}
+use Rattle.machine.specs.State.{put_up}
 use Rattle.machine.specs.Trace.{trace}
 use Rattle.machine.specs.Ledger.{Ledger, column, nothing, arrives, taken_from, handed_out, spent, stepped, queue_room, column_room, accepted, told, depths_of, progress_in}
 use Rattle.machine.specs.Laws.{Always, TrueAnswer, Truly, times_in_all, places, OnePlace}
@@ -74,4 +74,4 @@ module _ (l : Ledger) (s : Placed l) where
 pub one_place : Always OnePlace
 one_place p q bs cs =
     told_keeps (λ _ l. Placed l) bs (placed_none (length bs)) (λ _ e l s. placed_told l s (depths_of bs) e.asked e.answered)
-    p (trace p (idle bs) cs) (true_answers p q bs cs)
+    p (trace p (put_up bs) cs) (true_answers p q bs cs)

@@ -2,7 +2,8 @@
 use Rattle.std.proofs.Common.{◌≡◌, List, [], ◌∷◌, ◌++◌, length, sym, ◌∙◌, subst, append_assoc, append-nil}
 use Rattle.std.proofs.lemmas.List.Sums.{fold-append}
 use Rattle.board.specs.Bearers.{Bearer}
-use Rattle.machine.specs.State.{Batches, idle}
+use Rattle.machine.specs.State.{put_up}
+use Rattle.policy.specs.Batches.{Batches}
 use Rattle.machine.specs.Trace.{Entry, Throughout}
 use Rattle.machine.specs.Ledger.{Ledger, nothing, told, depths_of, ledger}
 use Rattle.machine.specs.Laws.{Truly, TrueAnswers}
@@ -25,6 +26,6 @@ module _ (P : List Entry → Ledger → Type 0) (bs : List Bearer) (none : P [] 
       (kept_from (done ++ e ∷ []) before after (h ∙ sym (append_assoc done (e ∷ []) (before ++ after)))
       (subst (P (done ++ e ∷ [])) (sym (ledger_push bs done e)) (keep done e (ledger bs done) k (t done (before ++ after) e h))))
 
-  pub told_keeps : Throughout (idle bs) es (λ before _. P before (ledger bs before))
+  pub told_keeps : Throughout (put_up bs) es (λ before _. P before (ledger bs before))
   unfolding ledger
   told_keeps before after h = kept_from [] before after h none

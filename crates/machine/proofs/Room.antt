@@ -4,15 +4,17 @@ use Rattle.std.proofs.lemmas.Bool.{cases_lt}
 use Rattle.board.specs.declared.packets.Packet.{Packet}
 use Rattle.board.specs.Bearers.{Bearer, bearer_of, changed, after_offer}
 use Rattle.board.proofs.Changes.{bearer_changed}
-use Rattle.machine.specs.declared.calls.RawSettings.{RawSettings}
-use Rattle.machine.specs.State.{Grant, Core, idle, Batches, serves}
+use Rattle.machine.specs.Kept.{Kept, KeptState}
+use Rattle.machine.specs.Settings.{Settings}
+use Rattle.machine.specs.State.{Grant, Core, serves, put_up}
+use Rattle.policy.specs.Batches.{Batches}
 use Rattle.machine.specs.Numbers.{times}
 use Rattle.machine.specs.Laws.{Always, BoundedMemory}
-use Rattle.machine.proofs.Kept.{Kept, KeptState, call_keeps}
+use Rattle.machine.proofs.Kept.{call_keeps}
 use Rattle.machine.proofs.Listed.{fits_in, room_in}
-use Rattle.machine.proofs.Runs.{throughout, if_running}
+use Rattle.machine.proofs.Runs.{throughout, if_configured}
 
-module _ (p : Batches) (s : RawSettings) (x : Core) (k : Kept p s x) where
+module _ (m : ℕ) (s : Settings) (x : Core) (k : Kept m s x) where
   -- the poll list, at rest
   pub listed : length x.listed ≤ length x.bearers
   listed = fits_in (length x.bearers) x.listed (λ b. omega (arith, k.tidy.once b)) (λ b i. omega (arith, k.shown b i))
@@ -37,6 +39,6 @@ module _ (p : Batches) (s : RawSettings) (x : Core) (k : Kept p s x) where
 
 pub bounded_memory : Always BoundedMemory
 bounded_memory p bounded bs cs before after e =
-    if_running (KeptState p)
-    (λ s x k. record { listed = listed p s x k; queue = k.queue; out = k.out; counted = k.counted; numbered = k.numbered; closed = k.closed }) _
-    (throughout p (λ _ t. KeptState p t) (λ _. call_keeps p bounded) (idle bs) tt cs before after e)
+    if_configured (KeptState p.greatest)
+    (λ s x k. record { listed = listed p.greatest s x k; queue = k.queue; out = k.out; counted = k.counted; numbered = k.numbered; closed = k.closed }) _
+    (throughout p (λ _ t. KeptState p.greatest t) (λ _. call_keeps p bounded) (put_up bs) tt cs before after e)

@@ -2,11 +2,12 @@
 use Rattle.std.proofs.Common.{◌≡◌, List, [], ◌∷◌, ◌++◌, Result, sym, refl, subst, append_assoc, append-nil, Err}
 use Rattle.machine.specs.declared.answers.Answer.{Answer}
 use Rattle.machine.specs.declared.calls.Call.{Call}
-use Rattle.machine.specs.declared.calls.RawSettings.{RawSettings}
+use Rattle.machine.specs.Settings.{Settings}
 use Rattle.machine.specs.declared.refusals.Refusal.{Refusal}
-use Rattle.machine.specs.State.{Core, State, idle, running, Batches}
+use Rattle.machine.specs.State.{Core, State, configured, unconfigured, put_up}
+use Rattle.policy.specs.Batches.{Batches}
 use Rattle.machine.specs.Trace.{Entry, trace, end_of, Throughout}
-use Rattle.machine.specs.Laws.{OnceRunning, Always, RefusalsLeave}
+use Rattle.machine.specs.Laws.{OnceConfigured, Always, RefusalsLeave}
 use Rattle.machine.proofs.Moved.{Happens, happens, refused}
 
 -- one call, and what it came to
@@ -65,9 +66,9 @@ module _ (p : Batches) where
           }
 
 -- once configured, from an invariant Q of the receiver
-pub if_running : (Q : State → Type 0) {P : RawSettings → Core → Type 0} → ((s : RawSettings) (x : Core) → Q (running s x) → P s x) → (t : State) → Q t → OnceRunning t P
-if_running Q f (idle bs) q = tt
-if_running Q f (running s x) q = f s x q
+pub if_configured : (Q : State → Type 0) {P : Settings → Core → Type 0} → ((s : Settings) (x : Core) → Q (configured s x) → P s x) → (t : State) → Q t → OnceConfigured t P
+if_configured Q f (unconfigured u) q = tt
+if_configured Q f (configured s x) q = f s x q
 
 -- a refused call leaves all as it was
 pub refused_same : {p : Batches} {t u : State} {c : Call} {q : Refusal} → Happens p t c (Err q) u → u ≡ t
@@ -75,5 +76,5 @@ refused_same refused = refl
 
 pub refusals_leave : Always RefusalsLeave
 refusals_leave p _ bs cs before after e r h a =
-    let k = each_call p (λ _ _. Unit {0}) (λ _ _ _ _ _ _ _. tt) (idle bs) tt cs before after e h in
+    let k = each_call p (λ _ _. Unit {0}) (λ _ _ _ _ _ _ _. tt) (put_up bs) tt cs before after e h in
     refused_same (subst (λ q. Happens p e.before e.asked q e.after) a k.comes)

@@ -8,12 +8,13 @@ use Rattle.std.specs.List.{slice_get}
 use Rattle.board.specs.declared.packets.Packet.{Packet}
 use Rattle.board.specs.Bearers.{Bearer, absent, bearer_of, changed, has_room, after_arm, after_take, after_disarm}
 use Rattle.machine.specs.declared.answers.Counts.{Counts}
-use Rattle.machine.specs.declared.calls.RawSettings.{RawSettings}
+use Rattle.machine.specs.Settings.{Settings}
 use Rattle.machine.specs.declared.answers.Answer.{Answer}
 use Rattle.machine.specs.declared.calls.Call.{Call}
 use Rattle.machine.specs.declared.calls.Call.TheVariants.{Arrive}
 use Rattle.machine.specs.declared.answers.Answer.TheVariants.{Arrived}
-use Rattle.machine.specs.State.{Grant, Core, Batches, waits}
+use Rattle.machine.specs.State.{Grant, Core, waits}
+use Rattle.policy.specs.Batches.{Batches}
 use Rattle.machine.specs.Moves.{one_numbered, one_bearer_full, one_queue_full, one_delivered, one_discarded, set_gate}
 use Rattle.machine.specs.Ledger.{Ledger, column, column_room, queue_room, arrives, taken_from, handed_out, spent, accepted, counts_of}
 use Rattle.machine.specs.Laws.{numbers, TrueAnswer}
@@ -45,7 +46,7 @@ pub record Tally (depths : List ℕ) (size : ℕ) (bs : List Bearer) (g : Option
   pub out : o ≡ l.columns.out
   pub counts : n ≡ counts_of l
 
-abbrev pub TallyCore : List ℕ → RawSettings → Core → Ledger → Type 0
+abbrev pub TallyCore : List ℕ → Settings → Core → Ledger → Type 0
 TallyCore depths s x l = Tally depths s.size x.bearers x.grant x.queue x.out x.counts l
 
 module _ {depths : List ℕ} {size : ℕ} {bs : List Bearer} {g : Option Grant} {q : List Packet} {o : List ℕ} {n : Counts} {l : Ledger}
@@ -154,7 +155,7 @@ module _ {depths : List ℕ} {size : ℕ} {bs : List Bearer} {g : Option Grant} 
   }
 
 -- the gate's setting
-pub gate_tally : (depths : List ℕ) (s : RawSettings) (x y : Core) (l : Ledger) → TallyCore depths s y l → TallyCore depths s (set_gate s x y) l
+pub gate_tally : (depths : List ℕ) (s : Settings) (x y : Core) (l : Ledger) → TallyCore depths s y l → TallyCore depths s (set_gate s x y) l
 gate_tally depths s x y l t =
     let u = gate_unmoved s x y in
     record {
@@ -168,7 +169,7 @@ gate_tally depths s x y l t =
     }
 
 -- every move, with what it is told of
-module _ (s : RawSettings) (p : Batches) (x : Core) (depths : List ℕ) (l : Ledger) (t : TallyCore depths s x l) where
+module _ (s : Settings) (p : Batches) (x : Core) (depths : List ℕ) (l : Ledger) (t : TallyCore depths s x l) where
   serves_last : (g : Grant) → x.grant ≡ Some g → g.bearer ≡ l.serving
   serves_last g e = subst (λ (h : Option Grant). Serving h l.serving) e t.serving
 
@@ -177,12 +178,12 @@ module _ (s : RawSettings) (p : Batches) (x : Core) (depths : List ℕ) (l : Led
   arrived_tally b room y h k = subst (λ r. TallyCore depths s y (arrives r b l)) (sym (column_room_is t b ∙ h)) k
 
   pub move_tally : (c : Call) (a : Answer) (y : Core) → Move s p x c a y → TallyCore depths s y (accepted depths c a l)
-  move_tally _ _ y (lost {b = b} i r) = arrived_tally b false y r (one_lost t b)
-  move_tally _ _ y (stored {b = b} {n = n} {t = tag} i r h) =
+  move_tally _ _ y (lost {b = b} i r _) = arrived_tally b false y r (one_lost t b)
+  move_tally _ _ y (stored {b = b} {n = n} {t = tag} i r h _) =
       arrived_tally b true y r (one_more t b (behind (next_packet n tag x)) (next_packet n tag x) refl refl refl)
-  move_tally _ _ y (signalled {b = b} {n = n} {t = tag} i r h) =
+  move_tally _ _ y (signalled {b = b} {n = n} {t = tag} i r h _) =
       arrived_tally b true y r (one_more t b (λ v. after_disarm (behind (next_packet n tag x) v)) (next_packet n tag x) refl refl refl)
-  move_tally _ _ _ (begun e i u h) = record {
+  move_tally _ _ _ (begun e i u h _) = record {
     waiting = t.waiting;
     depths_are = t.depths_are;
     serving = refl;
@@ -191,21 +192,21 @@ module _ (s : RawSettings) (p : Batches) (x : Core) (depths : List ℕ) (l : Led
     out = t.out;
     counts = t.counts;
   }
-  move_tally _ _ _ (emptied {g = g} e w n) =
+  move_tally _ _ _ (emptied {g = g} e w n _) =
       regranted (reshown t g.bearer after_take (cc w) refl) (Some (record { bearer = g.bearer; left = 0 })) (serves_last g e)
-  move_tally _ _ y (taken {g = g} {q = q} {rest = rest} {m = m} {room = room} e w n less r) =
+  move_tally _ _ y (taken {g = g} {q = q} {rest = rest} {m = m} {room = room} e w n less r _) =
       let last = serves_last g e in
       subst (λ b. TallyCore depths s y (record l { columns = taken_from (queue_room l) b l.columns })) last
       (subst (λ o. TallyCore depths s y (record l { columns = taken_from o g.bearer l.columns })) (sym (queue_room_is t ∙ r))
       (one_taken t g.bearer q rest (Some (record { bearer = g.bearer; left = m })) w last room))
-  move_tally _ _ _ (rescheduled e) = regranted t None tt
-  move_tally _ _ _ (completed {g = g} {o = o} e w i) =
+  move_tally _ _ _ (rescheduled e _) = regranted t None tt
+  move_tally _ _ _ (completed {g = g} {o = o} e w i _) =
       let b : ℕ = g.bearer in
       regranted (cond_both o _ _ (λ (bs : List Bearer). Tally depths s.size bs x.grant x.queue x.out x.counts l)
       (λ _. let same = armed_same false (bearer_of x.bearers b) in reshown t b (after_arm false) (ap numbers_in same) (ap depth_of same))
       (λ _. t)) None tt
-  move_tally _ _ _ (worked h) = t
-  move_tally _ _ _ (fetched {q = q} {rest = rest} e) = one_fetched t q rest e
+  move_tally _ _ _ (worked h _) = t
+  move_tally _ _ _ (fetched {q = q} {rest = rest} e _) = one_fetched t q rest e
   move_tally _ _ _ (finished {n = n} h) = one_spent t true n
   move_tally _ _ _ (discarded {n = n} h) = one_spent t false n
   move_tally _ _ _ told = t
@@ -222,19 +223,19 @@ module _ (s : RawSettings) (p : Batches) (x : Core) (depths : List ℕ) (l : Led
   )
 
   pub move_true : (c : Call) (a : Answer) (y : Core) → Move s p x c a y → TrueAnswer depths c a l
-  move_true _ _ _ (lost {b = b} {n = n} {t = tag} i r) = arrived_true b n tag false i r
-  move_true _ _ _ (stored {b = b} {n = n} {t = tag} i r h) = arrived_true b n tag true i r
-  move_true _ _ _ (signalled {b = b} {n = n} {t = tag} i r h) = arrived_true b n tag true i r
-  move_true _ _ _ (begun e i u h) = tt
-  move_true _ _ _ (emptied e w n) = tt
-  move_true _ _ _ (taken {g = g} {q = q} e w n less r) = (
+  move_true _ _ _ (lost {b = b} {n = n} {t = tag} i r _) = arrived_true b n tag false i r
+  move_true _ _ _ (stored {b = b} {n = n} {t = tag} i r h _) = arrived_true b n tag true i r
+  move_true _ _ _ (signalled {b = b} {n = n} {t = tag} i r h _) = arrived_true b n tag true i r
+  move_true _ _ _ (begun e i u h _) = tt
+  move_true _ _ _ (emptied e w n _) = tt
+  move_true _ _ _ (taken {g = g} {q = q} e w n less r _) = (
     ap (λ k. slice_get k 0) (ap (column l) (sym (serves_last g e)) ∙ sym (column_is t g.bearer) ∙ ap numbers w),
     sym (queue_room_is t ∙ r),
   )
-  move_true _ _ _ (rescheduled e) = tt
-  move_true _ _ _ (completed e w i) = tt
-  move_true _ _ _ (worked h) = refl
-  move_true _ _ _ (fetched {q = q} e) = (q, refl, ap (λ k. slice_get k 0) (sym t.queue ∙ ap numbers e))
+  move_true _ _ _ (rescheduled e _) = tt
+  move_true _ _ _ (completed e w i _) = tt
+  move_true _ _ _ (worked h _) = refl
+  move_true _ _ _ (fetched {q = q} e _) = (q, refl, ap (λ k. slice_get k 0) (sym t.queue ∙ ap numbers e))
   move_true _ _ _ (finished {n = n} h) = (refl, out_is n h)
   move_true _ _ _ (discarded {n = n} h) = (refl, out_is n h)
   move_true _ _ _ told = (_, refl, t.counts)

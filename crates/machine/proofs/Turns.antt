@@ -1,17 +1,19 @@
--- Equal turns: with packets waiting in c, each call pays for a grant begun on b by one begun on c, or by c's coming to stand before b in the poll list.
+-- Equal busy_count: with packets waiting in c, each call pays for a grant begun on b by one begun on c, or by c's coming to stand before b in the poll list.
 use Rattle.std.proofs.Common.{◌≡◌, ℕ, ◌+◌, ◌≤◌, true, cond, ◌≢◌, ◌&&◌, eqb, ltb, List, [], ◌∷◌, ◌++◌, None, Result, ap, arith}
+use Rattle.machine.specs.Tidy.{busy_count, TidyCore}
 use Rattle.machine.specs.declared.answers.Answer.{Answer}
 use Rattle.machine.specs.declared.calls.Call.{Call}
-use Rattle.machine.specs.declared.calls.RawSettings.{RawSettings}
+use Rattle.machine.specs.Settings.{Settings}
 use Rattle.machine.specs.declared.refusals.Refusal.{Refusal}
-use Rattle.machine.specs.State.{Core, State, idle, running, Batches, waits, is_open}
+use Rattle.machine.specs.State.{Core, State, configured, waits, is_open, unconfigured, put_up}
+use Rattle.policy.specs.Batches.{Batches}
 use Rattle.machine.specs.Ledger.{progress_in}
 use Rattle.machine.specs.Trace.{Entry, trace, end_of}
 use Rattle.machine.specs.Laws.{Always, Waiting, AlwaysWaiting, begun_by, begun_on, begins, EqualTurns}
-use Rattle.machine.proofs.Loads.{turns, TidyCore, TidyState, busy_turns}
-use Rattle.machine.proofs.Moved.{Move, signalled, begun, rescheduled, Happens, refused, asked_idle, configured, moved}
+use Rattle.machine.proofs.Loads.{TidyState, busy_turns}
+use Rattle.machine.proofs.Moved.{Move, signalled, begun, rescheduled, Happens, refused, asked_unconfigured, configures, moved}
 use Rattle.machine.proofs.Runs.{reached, starts_with}
-use Rattle.machine.proofs.Tidy.{keeps_tidy, tidy_not_deaf}
+use Rattle.machine.proofs.Tidy.{keeps_tidy, tidy_wakes}
 use Rattle.machine.proofs.Unmoved.{gate_unmoved}
 use Rattle.machine.specs.Numbers.{times}
 use Rattle.machine.proofs.Batches.{begins-cons}
@@ -36,37 +38,37 @@ module _ (c b : ℕ) where
   slack_none (m ∷ ns) l n = grind (arith, slack_none ns)
 
   -- the first leaves the list and begins
-  first_leaves : b ≢ c → (n : ℕ) (ns : List ℕ) → 1 ≤ turns (n ∷ ns) None c → turns (n ∷ ns) None b ≤ 1 →
+  first_leaves : b ≢ c → (n : ℕ) (ns : List ℕ) → 1 ≤ busy_count (n ∷ ns) None c → busy_count (n ∷ ns) None b ≤ 1 →
       cond (eqb n b) 1 0 + slack ns ≤ cond (eqb n c) 1 0 + slack (n ∷ ns)
   first_leaves d n ns l m = grind (arith, d, slack_most ns, slack_none ns)
 
   -- what b may begin before c does
   abbrev may_begin : State → ℕ
-  may_begin (idle bs) = 1
-  may_begin (running s x) = slack x.listed
+  may_begin (unconfigured u) = 1
+  may_begin (configured s x) = slack x.listed
 
   may_begin_most : (t : State) → may_begin t ≤ 1
-  may_begin_most (idle bs) = omega arith
-  may_begin_most (running s x) = slack_most x.listed
+  may_begin_most (unconfigured u) = omega arith
+  may_begin_most (configured s x) = slack_most x.listed
 
   module _ (p : Batches) (d : b ≢ c) where
-    move_pays : (s : RawSettings) (x y : Core) (k : Call) (a : Answer) → TidyCore (is_open s x) x → waits x.bearers c ≢ [] → Move s p x k a y →
+    move_pays : (s : Settings) (x y : Core) (k : Call) (a : Answer) → TidyCore (is_open s x) x → waits x.bearers c ≢ [] → Move s p x k a y →
         begun_by b (progress_in a) + slack y.listed ≤ begun_by c (progress_in a) + slack x.listed
-    move_pays s x _ _ _ t w (begun {b = n} {rest = ns} e i u h) =
+    move_pays s x _ _ _ t w (begun {b = n} {rest = ns} e i u h _) =
         let o : (ltb x.clock.used s.limit && eqb x.hold 0) ≡ true = grind arith in
-        let l : 1 ≤ turns x.listed x.grant c = busy_turns x c ((tidy_not_deaf s x t).waiting_busy o c w) in
-        let m : turns x.listed x.grant b ≤ 1 = omega (arith, t.once b) in
+        let l : 1 ≤ busy_count x.listed x.grant c = busy_turns x c ((tidy_wakes s x t).waiting_busy o c w) in
+        let m : busy_count x.listed x.grant b ≤ 1 = omega (arith, t.once b) in
         rw i (first_leaves d n ns (rw (e, i) at l) (rw (e, i) at m))
-    move_pays s x _ _ _ t w (signalled {b = n} l r h) = omega (arith, slack-append x.listed (n ∷ []))
-    move_pays s x _ _ _ t w (rescheduled {g = g} e) = omega (arith, slack-append x.listed (g.bearer ∷ []))
+    move_pays s x _ _ _ t w (signalled {b = n} l r h _) = omega (arith, slack-append x.listed (n ∷ []))
+    move_pays s x _ _ _ t w (rescheduled {g = g} e _) = omega (arith, slack-append x.listed (g.bearer ∷ []))
     move_pays s x _ _ _ t w _ = omega arith
 
     call_pays : (t u : State) (k : Call) (r : Result Answer Refusal) → TidyState t → Waiting c t → Happens p t k r u →
         begun_on b r + may_begin u ≤ begun_on c r + may_begin t
     call_pays _ _ _ _ i w refused = omega arith
-    call_pays _ _ _ _ i w asked_idle = omega arith
-    call_pays _ _ _ _ i w (configured ranges empty share) = omega arith
-    call_pays _ _ _ _ i w (moved {s = s} {x = x} {y = y} {c = k} {a = a} m _) =
+    call_pays _ _ _ _ i w asked_unconfigured = omega arith
+    call_pays _ _ _ _ i w (configures ranges empty share) = omega arith
+    call_pays _ _ _ _ i w (moved {s = s} {x = x} {y = y} {c = k} {a = a} m) =
         let u = gate_unmoved s x y in omega (arith, move_pays s x y k a i w m, ap slack u.listed, slack-append y.listed u.joined)
 
     -- over a stretch of a trace
@@ -80,5 +82,5 @@ module _ (c b : ℕ) where
 
 pub equal_turns : Always EqualTurns
 equal_turns p _ bs cs before stretch after h b c d w ws =
-    let k = reached p (λ _ t. TidyState t) (λ _ t u a r i m. keeps_tidy p t u a r i m) (idle bs) tt cs before (stretch ++ after) h in
-    omega (arith, stretch_pays c b p d stretch after k.1 (end_of (idle bs) before) k.0 w ws k.2, may_begin_most c b (end_of (idle bs) before))
+    let k = reached p (λ _ t. TidyState t) (λ _ t u a r i m. keeps_tidy p t u a r i m) (put_up bs) tt cs before (stretch ++ after) h in
+    omega (arith, stretch_pays c b p d stretch after k.1 (end_of (put_up bs) before) k.0 w ws k.2, may_begin_most c b (end_of (put_up bs) before))

@@ -3,8 +3,8 @@ use Rattle.std.proofs.Common.{◌≡◌, ℕ, Bool, false, List, [], ◌∷◌, 
 use Rattle.std.proofs.Math.Seq.{map-set_same}
 use Rattle.std.proofs.Math.ListN.{get_or-map}
 use Rattle.std.proofs.lemmas.Bool.{cond_both, cond-true, cond-false}
-use Rattle.board.specs.Bearers.{Bearer, absent, bearer_of, changed, any_waiting, after_arm, after_disarm}
-use Rattle.machine.specs.declared.calls.RawSettings.{RawSettings}
+use Rattle.board.specs.Bearers.{Bearer, absent, bearer_of, changed, any_in, after_arm, after_disarm}
+use Rattle.machine.specs.Settings.{Settings}
 use Rattle.machine.specs.State.{Core, waits, busy, is_open}
 use Rattle.machine.specs.Moves.{arm, open_bearer, open_gate, shut_gate, set_gate}
 use Rattle.machine.proofs.Basics.{on_each_keeps}
@@ -48,7 +48,7 @@ module _ (x : Core) where
   unmoved_open : (b : ℕ) (y : Core) → Unmoved x y → Unmoved x (open_bearer b y)
   unmoved_open b y u =
       cond_both (busy y b) _ _ (Unmoved x) (λ _. u)
-      (λ _. cond_both (any_waiting (waits y.bearers b)) _ _ (Unmoved x)
+      (λ _. cond_both (any_in (waits y.bearers b)) _ _ (Unmoved x)
       (λ _. record {
         bearers = rearmed after_disarm (λ _. refl) (arm b y).bearers b ∙ armed;
         clock = u.clock;
@@ -100,7 +100,7 @@ module _ (x : Core) where
   unfolding shut_gate
   unmoved_shut = reshown (map after_disarm x.bearers) (map-map after_disarm after_disarm x.bearers)
 
-pub gate_unmoved : (s : RawSettings) (x y : Core) → Unmoved y (set_gate s x y)
+pub gate_unmoved : (s : Settings) (x y : Core) → Unmoved y (set_gate s x y)
 unfolding set_gate
 gate_unmoved s x y =
     cond_both (is_open s x) _ _ (Unmoved y)
@@ -108,7 +108,7 @@ gate_unmoved s x y =
     (λ _. cond_both (is_open s y) _ _ (Unmoved y) (λ _. unmoved_opened y) (λ _. unmoved_same y))
 
 -- where it is to stay as it is, there is nothing to set
-pub gate_same : (s : RawSettings) (x y : Core) → is_open s y ≡ is_open s x → y ≡ set_gate s x y
+pub gate_same : (s : Settings) (x y : Core) → is_open s y ≡ is_open s x → y ≡ set_gate s x y
 unfolding set_gate
 gate_same s x y e =
     cond_both (is_open s x) _ _ (λ z. y ≡ z)

@@ -2,13 +2,16 @@
 use Rattle.std.specs.Prelude.{ℕ, ◌+◌, ◌-◌, Bool, cond, List, [], ◌∷◌, ◌++◌, length, drop, Some, None, Option, ◌==◌, nat_le, nat_lt, slice_index_or}
 use Rattle.std.specs.List.{slice_get}
 use Rattle.board.specs.declared.packets.Packet.{Packet}
-use Rattle.board.specs.Bearers.{blank, bearer_of, changed, has_room, any_waiting, after_offer, after_take}
+use Rattle.board.specs.Bearers.{blank, bearer_of, changed, has_room, any_in, after_offer, after_take}
 use Rattle.board.specs.Costs.{cost_of_length}
 use Rattle.machine.specs.declared.answers.Answer.{Answer}
 use Rattle.machine.specs.declared.answers.Answer.TheVariants.{Arrived, Stepped, Worked, Fetched, Finished, Discarded, Told}
+use Rattle.machine.specs.declared.answers.Report.{Report}
+use Rattle.machine.specs.declared.answers.Counts.{Counts}
 use Rattle.machine.specs.declared.answers.Progress.TheVariants.{Begun, Empty, Taken, Rescheduled, Completed}
-use Rattle.machine.specs.declared.calls.RawSettings.{RawSettings}
-use Rattle.machine.specs.State.{Grant, Core, Batches, waits, is_open}
+use Rattle.machine.specs.Settings.{Settings}
+use Rattle.machine.specs.State.{Grant, Core, waits, is_open}
+use Rattle.policy.specs.Batches.{Batches}
 use Rattle.machine.specs.Moves.{arm, disarm, join, charge, offer_cycles, one_numbered, one_bearer_full, one_queue_full, one_delivered, one_discarded}
 use Rattle.machine.specs.Numbers.{without}
 
@@ -28,7 +31,7 @@ left_with g n x = record x { grant = Some (record g { left = n }) }
 abbrev pub taken_off : Grant → Core → Core
 taken_off g x = record x { bearers = changed x.bearers g.bearer after_take }
 
-module _ (s : RawSettings) where
+module _ (s : Settings) where
   -- arrive. A bearer whose signal is up is disarmed and joins the poll list, at 60 cycles
   abbrev pub heard : ℕ → Core → Core
   heard b x = charge s 60 (join b (disarm b x))
@@ -74,13 +77,18 @@ module _ (s : RawSettings) where
   -- step, a grant with none left: it closes
   abbrev pub close : Grant → Core → Answer × Core
   close g x =
-      cond (any_waiting (waits x.bearers g.bearer))
+      cond (any_in (waits x.bearers g.bearer))
       (Stepped Rescheduled, record (join g.bearer x) { grant = None })
       (Stepped Completed, record (cond (is_open s x) (arm g.bearer x) x) { grant = None })
 
   -- step with a grant
   unfoldable pub serve : Grant → Core → Answer × Core
   serve g x = cond (g.left == 0) (close g x) (take_by g (slice_get (waits x.bearers g.bearer) 0) x)
+
+  -- step goes by the grant, if one runs
+  abbrev pub step : Batches → Option Grant → Core → Answer × Core
+  step p None x = begin p x
+  step p (Some g) x = serve g x
 
   -- work: the application is offered cycles
   abbrev pub work : ℕ → Core → Answer × Core
@@ -95,13 +103,19 @@ module _ (s : RawSettings) where
         record x { hold = cond (nat_le (length rest) s.low) 0 x.hold; queue = rest; out = x.out ++ q.number ∷ [] },
       )
 
--- finish and discard: a number that is out is spent
+-- finish and discard: a number that is out is spent, and its packet counted
+abbrev pub spend : ℕ → (Counts → Counts) → Core → Core
+spend n count x = record x { out = without n x.out; counts = count x.counts }
+
 abbrev pub finish : ℕ → Core → Answer × Core
-finish n x = (Finished, record x { out = without n x.out; counts = one_delivered x.counts })
+finish n x = (Finished, spend n one_delivered x)
 
 abbrev pub discard : ℕ → Core → Answer × Core
-discard n x = (Discarded, record x { out = without n x.out; counts = one_discarded x.counts })
+discard n x = (Discarded, spend n one_discarded x)
 
 -- tell: nothing changes
+abbrev pub report_of : Core → Report
+report_of x = record { counts = x.counts; closed = x.clock.closed; last = x.clock.last }
+
 abbrev pub tell : Core → Answer × Core
-tell x = (Told (record { counts = x.counts; closed = x.clock.closed; last = x.clock.last }), x)
+tell x = (Told (report_of x), x)

@@ -5,9 +5,10 @@ use Rattle.board.specs.Bearers.{Bearer}
 use Rattle.machine.specs.declared.answers.Answer.TheVariants.{Configured, Stepped, Worked, Fetched, Finished, Discarded, Told}
 use Rattle.machine.specs.declared.answers.Progress.TheVariants.{Begun, Taken, Rescheduled, Completed, Empty}
 use Rattle.machine.specs.declared.calls.Call.TheVariants.{Configure, Arrive, Step, Work, Fetch, Finish, Discard, Tell}
-use Rattle.machine.specs.State.{Core, State, idle, running}
+use Rattle.machine.specs.State.{Core, State, configured, put_up}
 use Rattle.machine.specs.Machine.{no_counts, fresh}
-use Rattle.machine.specs.Examples.{Line, ◌answers◌, ◌refused◌at◌, shows, hold, closed, ring, mailbox, standard_board, standard, accepted, queued, used, armed}
+use Rattle.machine.specs.Examples.{Line, ◌answers◌, ◌refused◌at◌, shows, hold, closed, accepted, queued, used, armed}
+use Rattle.machine.specs.Standard.{ring, mailbox, standard_board, standard, standard_numbers}
 
 -- a packet of one octet
 abbrev pub short : ℕ → Packet
@@ -19,7 +20,7 @@ waiting_board = ring 8 ∷ record (mailbox 4) { waiting = short 0 ∷ [] } ∷ r
 
 -- the standard receiver, put up and just configured
 abbrev pub new : State
-new = idle standard_board
+new = put_up standard_board
 
 abbrev pub just_configured : Core
 just_configured = fresh standard_board
@@ -36,49 +37,49 @@ edges =
           ∷ Finish 0 refused 30 at 0
           ∷ Discard 0 refused 30 at 0
           ∷ Tell answers Told (record { counts = no_counts; closed = 0; last = None })
-          ∷ Configure standard answers Configured
+          ∷ Configure standard_numbers answers Configured
           ∷ [],
     )
     -- L. It is configured once, whatever the settings are.
     ∷ (
       new,
-      Configure standard answers Configured
-          ∷ Configure standard refused 21 at 0
-          ∷ Configure (record standard { period = 0 }) refused 21 at 0
+      Configure standard_numbers answers Configured
+          ∷ Configure standard_numbers refused 21 at 0
+          ∷ Configure (record standard_numbers { period = 0 }) refused 21 at 0
           ∷ [],
     )
     -- M. The place is that of the first setting outside its range.
     ∷ (
       new,
-      Configure (record standard { period = 999; limit = 0 }) refused 1 at 1
-          ∷ Configure (record standard { period = 1000000001 }) refused 1 at 1
-          ∷ Configure (record standard { limit = 0; size = 0 }) refused 1 at 2
-          ∷ Configure (record standard { limit = 64001 }) refused 1 at 2
-          ∷ Configure (record standard { size = 0; high = 0 }) refused 1 at 3
-          ∷ Configure (record standard { size = 65 }) refused 1 at 3
-          ∷ Configure (record standard { high = 0; low = 0 }) refused 1 at 4
-          ∷ Configure (record standard { high = 33; low = 33 }) refused 1 at 4
-          ∷ Configure (record standard { low = 24; hold = 0 }) refused 1 at 5
-          ∷ Configure (record standard { hold = 0 }) refused 1 at 6
-          ∷ Configure (record standard { hold = 1001 }) refused 1 at 6
+      Configure (record standard_numbers { period = 999; limit = 0 }) refused 1 at 1
+          ∷ Configure (record standard_numbers { period = 1000000001 }) refused 1 at 1
+          ∷ Configure (record standard_numbers { limit = 0; size = 0 }) refused 1 at 2
+          ∷ Configure (record standard_numbers { limit = 64001 }) refused 1 at 2
+          ∷ Configure (record standard_numbers { size = 0; high = 0 }) refused 1 at 3
+          ∷ Configure (record standard_numbers { size = 65 }) refused 1 at 3
+          ∷ Configure (record standard_numbers { high = 0; low = 0 }) refused 1 at 4
+          ∷ Configure (record standard_numbers { high = 33; low = 33 }) refused 1 at 4
+          ∷ Configure (record standard_numbers { low = 24; hold = 0 }) refused 1 at 5
+          ∷ Configure (record standard_numbers { hold = 0 }) refused 1 at 6
+          ∷ Configure (record standard_numbers { hold = 1001 }) refused 1 at 6
           -- in range, though no share is left
-          ∷ Configure (record standard { period = 1000; limit = 1000 }) refused 2 at 0
+          ∷ Configure (record standard_numbers { period = 1000; limit = 1000 }) refused 2 at 0
           ∷ Configure (record { period = 1000000000; limit = 999974960; size = 64; high = 64; low = 63; hold = 1000 }) answers Configured
           ∷ [],
     )
     ∷ (new, Configure (record { period = 25041; limit = 1; size = 1; high = 1; low = 0; hold = 1 }) answers Configured ∷ [])
     -- N. A packet that waits is found after the settings' ranges and before the share; the place is the lowest such bearer.
     ∷ (
-      idle waiting_board,
-      Configure (record standard { hold = 0 }) refused 1 at 6
-          ∷ Configure (record standard { period = 57039 }) refused 22 at 1
-          ∷ Configure standard refused 22 at 1
+      put_up waiting_board,
+      Configure (record standard_numbers { hold = 0 }) refused 1 at 6
+          ∷ Configure (record standard_numbers { period = 57039 }) refused 22 at 1
+          ∷ Configure standard_numbers refused 22 at 1
           ∷ [],
     )
     -- O. The bearer is checked before the length.
     ∷ (
       new,
-      Configure standard answers Configured
+      Configure standard_numbers answers Configured
           ∷ Arrive 3 0 0 refused 4 at 3
           ∷ Arrive 2 385 0 refused 5 at 385
           ∷ Arrive 2 384 7 answers accepted 0
@@ -90,7 +91,7 @@ edges =
     -- P. The limit is checked before the hold, and the hold before the list. A hold of 2 lasts two closes.
     ∷ (
       new,
-      Configure (record standard { limit = 200; size = 1; high = 1; low = 0 }) answers Configured
+      Configure (record standard_numbers { limit = 200; size = 1; high = 1; low = 0 }) answers Configured
           ∷ Arrive 0 1 0 answers accepted 0
           ∷ Step answers Stepped (Begun 0 4)
           ∷ Step answers queued 0
@@ -108,7 +109,7 @@ edges =
     -- Q. Work is checked for what no period has, and then for what is left of this one.
     ∷ (
       new,
-      Configure standard answers Configured
+      Configure standard_numbers answers Configured
           ∷ Work 60000 answers Worked
           ∷ Work 0 refused 6 at 0
           ∷ Work 64001 refused 6 at 0
@@ -119,7 +120,7 @@ edges =
     )
     -- R. With sixteen out, none more is handed out; the queue is looked at first.
     ∷ (
-      running standard (record just_configured {
+      configured standard (record just_configured {
         queue = short 16 ∷ [];
         out = 0 ∷ 1 ∷ 2 ∷ 3 ∷ 4 ∷ 5 ∷ 6 ∷ 7 ∷ 8 ∷ 9 ∷ 10 ∷ 11 ∷ 12 ∷ 13 ∷ 14 ∷ 15 ∷ [];
       }),
@@ -134,7 +135,7 @@ edges =
     -- S. A packet that finds the queue full is dropped, and the hold begins anew. What tell reads.
     ∷ (
       new,
-      Configure (record standard { size = 1; high = 1; low = 0; hold = 1 }) answers Configured
+      Configure (record standard_numbers { size = 1; high = 1; low = 0; hold = 1 }) answers Configured
           ∷ Arrive 0 1 0 answers accepted 0
           ∷ Arrive 0 1 0 answers accepted 1
           ∷ Step answers Stepped (Begun 0 4)
@@ -156,7 +157,7 @@ edges =
     )
     -- T. The last packet that is numbered, and the last period that closes, retire the receiver; fetch, finish and tell go on.
     ∷ (
-      running standard (record just_configured { counts = record no_counts { numbered = 999999999 }; queue = short 8 ∷ [] }),
+      configured standard (record just_configured { counts = record no_counts { numbered = 999999999 }; queue = short 8 ∷ [] }),
       Arrive 0 1 0 answers accepted 999999999
           ∷ Arrive 3 0 0 refused 23 at 0
           ∷ Step refused 23 at 0
@@ -167,7 +168,7 @@ edges =
           ∷ [],
     )
     ∷ (
-      running standard (record just_configured { clock = record just_configured.clock { closed = 999999999 } }),
+      configured standard (record just_configured { clock = record just_configured.clock { closed = 999999999 } }),
       Work 64000 answers Worked
           ∷ Arrive 3 0 0 refused 23 at 0
           ∷ Step refused 23 at 0
@@ -178,7 +179,7 @@ edges =
     -- behind the charge.
     ∷ (
       new,
-      Configure (record standard { size = 1; high = 1; low = 0; hold = 1 }) answers Configured
+      Configure (record standard_numbers { size = 1; high = 1; low = 0; hold = 1 }) answers Configured
           ∷ Arrive 0 1 0 answers accepted 0
           ∷ Step answers Stepped (Begun 0 4)
           ∷ Work 63800 answers Worked
@@ -193,7 +194,7 @@ edges =
     -- V. Marks that are apart: at H the hold begins, and no bearer is armed; at L it ends. Above H it begins as well.
     ∷ (
       new,
-      Configure (record standard { size = 4; high = 2; low = 1; hold = 1 }) answers Configured
+      Configure (record standard_numbers { size = 4; high = 2; low = 1; hold = 1 }) answers Configured
           ∷ Arrive 0 1 0 answers accepted 0
           ∷ Arrive 0 1 0 answers accepted 1
           ∷ Arrive 0 1 0 answers accepted 2
@@ -222,7 +223,7 @@ edges =
     -- W. A grant takes its quota and no more. A bearer that is found empty with the gate open is armed again, and not listed.
     ∷ (
       new,
-      Configure standard answers Configured
+      Configure standard_numbers answers Configured
           ∷ Arrive 0 1 0 answers accepted 0
           ∷ Arrive 0 1 0 answers accepted 1
           ∷ Arrive 0 1 0 answers accepted 2
@@ -245,7 +246,7 @@ edges =
     -- X. With used at N the gate shuts. When it opens, bearers in which packets wait are listed in number order, without a charge.
     ∷ (
       new,
-      Configure (record standard { limit = 60 }) answers Configured
+      Configure (record standard_numbers { limit = 60 }) answers Configured
           ∷ Arrive 0 1 0 answers accepted 0
           ∷ shows used 60
           ∷ shows (armed 1) 0
@@ -265,7 +266,7 @@ edges =
     )
     -- Y. That the receiver is retired is checked first, with a grant and without. A receipt can be spent as well by discard.
     ∷ (
-      running standard (record just_configured {
+      configured standard (record just_configured {
         counts = record no_counts { numbered = 1000000000 };
         grant = Some (record { bearer = 0; left = 4 });
         out = 8 ∷ [];
@@ -273,7 +274,7 @@ edges =
       Step refused 23 at 0 ∷ Discard 8 answers Discarded ∷ [],
     )
     ∷ (
-      running standard (record just_configured { clock = record just_configured.clock { closed = 1000000000; used = 32000 }; hold = 1 }),
+      configured standard (record just_configured { clock = record just_configured.clock { closed = 1000000000; used = 32000 }; hold = 1 }),
       Step refused 23 at 0 ∷ [],
     )
     ∷ []

@@ -9,7 +9,9 @@ use Rattle.machine.specs.declared.calls.Call.TheVariants.{Configure, Arrive, Ste
 use Rattle.machine.specs.declared.calls.RawSettings.{RawSettings}
 use Rattle.machine.specs.declared.refusals.Refusal.{Refusal}
 use Rattle.machine.specs.Refusals.{number_of, place_of}
-use Rattle.machine.specs.State.{Core, State, idle, running, Batches}
+use Rattle.machine.specs.Standard.{standard_numbers}
+use Rattle.machine.specs.State.{Core, State, configured, unconfigured, put_up}
+use Rattle.policy.specs.Batches.{Batches}
 use Rattle.machine.specs.Machine.{no_counts, call}
 
 infix 70 ◌answers◌
@@ -34,8 +36,8 @@ abbrev pub armed : ℕ → Core → ℕ
 armed b x = cond (bearer_of x.bearers b).armed 1 0
 
 abbrev pub shown : (Core → ℕ) → State → ℕ
-shown figure (idle bs) = 0
-shown figure (running s x) = figure x
+shown figure (unconfigured u) = 0
+shown figure (configured s x) = figure x
 
 -- a call's line, and all lines, as the machine writes them
 abbrev pub line : Call → Result Answer Refusal → Line
@@ -47,22 +49,6 @@ replayed p t [] = []
 replayed p t (c answers a ∷ ls) = line c (call p c t).0 ∷ replayed p (call p c t).1 ls
 replayed p t (c refused n at i ∷ ls) = line c (call p c t).0 ∷ replayed p (call p c t).1 ls
 replayed p t (shows figure n ∷ ls) = shows figure (shown figure t) ∷ replayed p t ls
-
--- the standard receiver: its board as it is put up, its policy, its settings
-abbrev pub ring : ℕ → Bearer
-ring depth = record { depth = depth; cost = 200; waiting = []; armed = false; signal = false }
-
-abbrev pub mailbox : ℕ → Bearer
-mailbox depth = record (ring depth) { cost = 120 }
-
-abbrev pub standard_board : List Bearer
-standard_board = ring 8 ∷ mailbox 4 ∷ ring 16 ∷ []
-
-abbrev pub four : Batches
-four = record { quota = λ b w. 4; greatest = 16 }
-
-abbrev pub standard : RawSettings
-standard = record { period = 64000; limit = 32000; size = 32; high = 24; low = 8; hold = 2 }
 
 -- short names of answers, by a packet's number
 abbrev pub accepted : ℕ → Answer
@@ -78,7 +64,7 @@ queued n = Stepped (Taken n true)
 abbrev pub examples : List (List Line)
 examples =
     -- A. Beside the bearer's 200, lengths 1, 32, 33 and 384 cost 420, 420, 510 and 1,360.
-    (Configure standard answers Configured
+    (Configure standard_numbers answers Configured
     ∷ Arrive 0 1 0 answers accepted 0
     ∷ Arrive 0 32 0 answers accepted 1
     ∷ Arrive 0 33 0 answers accepted 2
@@ -95,26 +81,26 @@ examples =
     ∷ shows used (2090 + 200 + 1360)
     ∷ [])
     -- B. A length of 0, or above 384, is refused.
-    ∷ (Configure standard answers Configured
+    ∷ (Configure standard_numbers answers Configured
     ∷ Arrive 0 0 0 refused 5 at 0
     ∷ Arrive 0 385 0 refused 5 at 385
     ∷ [])
     -- C. The grant bound is 25,040, so that with N at 32,000 the least P is 57,040.
-    ∷ (Configure (record standard { period = 57039 }) refused 2 at 0
-    ∷ Configure (record standard { period = 57040 }) answers Configured
+    ∷ (Configure (record standard_numbers { period = 57039 }) refused 2 at 0
+    ∷ Configure (record standard_numbers { period = 57040 }) answers Configured
     ∷ [])
     -- D. With H at 24, L may be 23 at the most.
-    ∷ (Configure (record standard { low = 24 }) refused 1 at 5
-    ∷ Configure (record standard { low = 23 }) answers Configured
+    ∷ (Configure (record standard_numbers { low = 24 }) refused 1 at 5
+    ∷ Configure (record standard_numbers { low = 23 }) answers Configured
     ∷ [])
     -- E. The application may be offered a whole period, and no more at once.
-    ∷ (Configure standard answers Configured
+    ∷ (Configure standard_numbers answers Configured
     ∷ Work 64000 answers Worked
     ∷ Tell answers Told (record { counts = no_counts; closed = 1; last = Some (record { offered = 64000; network = 0 }) })
     ∷ Work 64001 refused 6 at 0
     ∷ [])
     -- F. A mailbox of 4 has no room for a fifth packet.
-    ∷ (Configure standard answers Configured
+    ∷ (Configure standard_numbers answers Configured
     ∷ Arrive 1 20 0 answers accepted 0
     ∷ Arrive 1 20 0 answers accepted 1
     ∷ Arrive 1 20 0 answers accepted 2
@@ -122,7 +108,7 @@ examples =
     ∷ Arrive 1 20 0 answers dropped 4
     ∷ [])
     -- G. The second arrival finds the bearer disarmed and is not charged; its bearer waits for another turn.
-    ∷ (Configure standard answers Configured
+    ∷ (Configure standard_numbers answers Configured
     ∷ Arrive 1 20 0 answers accepted 0
     ∷ Step answers Stepped (Begun 1 4)
     ∷ Step answers queued 0
@@ -132,7 +118,7 @@ examples =
     ∷ shows used (60 + 80 + 120 + 420)
     ∷ [])
     -- H. The take that fills the queue to H sets the hold, and the fetch that leaves L ends it.
-    ∷ (Configure (record standard { size = 2; high = 2; low = 0; hold = 1 }) answers Configured
+    ∷ (Configure (record standard_numbers { size = 2; high = 2; low = 0; hold = 1 }) answers Configured
     ∷ Arrive 0 1 0 answers accepted 0
     ∷ Arrive 0 1 0 answers accepted 1
     ∷ Step answers Stepped (Begun 0 4)
@@ -148,7 +134,7 @@ examples =
     ∷ shows hold 0
     ∷ [])
     -- I. At N cycles used the gate shuts, and at the period's end it opens.
-    ∷ (Configure (record standard { limit = 200 }) answers Configured
+    ∷ (Configure (record standard_numbers { limit = 200 }) answers Configured
     ∷ Arrive 0 1 0 answers accepted 0
     ∷ Step answers Stepped (Begun 0 4)
     ∷ shows (armed 1) 1

@@ -12,31 +12,26 @@ use Rattle.machine.specs.declared.answers.Progress.TheVariants.{Begun, Taken}
 use Rattle.machine.specs.declared.answers.Report.{Report}
 use Rattle.machine.specs.declared.calls.Call.{Call}
 use Rattle.machine.specs.declared.calls.Call.TheVariants.{Configure, Arrive, Step, Work, Fetch, Finish, Discard, Tell}
-use Rattle.machine.specs.declared.calls.RawSettings.{RawSettings}
 use Rattle.machine.specs.declared.refusals.Refusal.{Refusal}
-use Rattle.machine.specs.State.{Core, State, idle, running, Batches, waits, busy, is_open, serves}
-use Rattle.machine.specs.Settings.{grant_bound}
+use Rattle.machine.specs.State.{Core, State, configured, waits, busy, is_open, serves, unconfigured, put_up}
+use Rattle.policy.specs.Batches.{Batches, IsBounded}
+use Rattle.machine.specs.Settings.{Settings, grant_bound}
+use Rattle.machine.specs.Tidy.{ways}
 use Rattle.machine.specs.Trace.{Entry, trace, end_of, Throughout}
 use Rattle.machine.specs.Ledger.{Ledger, Columns, column, column_room, queue_room, progress_in, depths_of, ledger, counts_of}
 use Rattle.machine.specs.Numbers.{holds, times}
-
--- what a policy keeps: a quota is 1 to M, and M is at most 64
-pub record Bounded (p : Batches) : Type 0 where
-  pub least : (b w : ℕ) → 1 ≤ p.quota b w
-  pub most : (b w : ℕ) → p.quota b w ≤ p.greatest
-  pub small : p.greatest ≤ 64
 
 abbrev pub Law : Type 1
 Law = Batches → List Bearer → List Entry → Type 0
 
 -- a law holds of every policy that keeps its bounds, of any list of bearers, in any state, and of every list of calls
 abbrev pub Always : Law → Type 0
-Always law = (p : Batches) → Bounded p → (bs : List Bearer) (cs : List Call) → law p bs (trace p (idle bs) cs)
+Always law = (p : Batches) → IsBounded p → (bs : List Bearer) (cs : List Call) → law p bs (trace p (put_up bs) cs)
 
 -- once configured: of the settings, and of what the receiver holds
-abbrev pub OnceRunning : State → (RawSettings → Core → Type 0) → Type 0
-OnceRunning (idle bs) P = Unit {0}
-OnceRunning (running s x) P = P s x
+abbrev pub OnceConfigured : State → (Settings → Core → Type 0) → Type 0
+OnceConfigured (unconfigured u) P = Unit {0}
+OnceConfigured (configured s x) P = P s x
 
 -- REFUSALS LEAVE ALL AS IT WAS. A refused call changes nothing.
 abbrev pub RefusalsLeave : Law
@@ -45,8 +40,8 @@ RefusalsLeave p bs es =
 
 -- the periods closed
 abbrev pub closed_in : State → ℕ
-closed_in (idle bs) = 0
-closed_in (running s x) = x.clock.closed
+closed_in (unconfigured u) = 0
+closed_in (configured s x) = x.clock.closed
 
 -- the cycles that an accepted call of work offered
 abbrev pub cycles_of : Call → ℕ
@@ -62,12 +57,12 @@ abbrev pub offered_in : ℕ → List Entry → ℕ
 offered_in k = sum_by (λ (e : Entry). cond (closed_in e.before == k) (offered_by e.asked e.answered) 0)
 
 -- THE APPLICATION'S SHARE. N and B together are at most P, and every closed period offered the application at least P - N - B + 1 cycles.
-pub record Shared (p : Batches) (bs : List Bearer) (es : List Entry) (s : RawSettings) (x : Core) : Type 0 where
-  pub some : s.limit + grant_bound p bs ≤ s.period
-  pub each : (k : ℕ) → k < x.clock.closed → s.period + 1 ≤ offered_in k es + (s.limit + grant_bound p bs)
+pub record Shared (p : Batches) (bs : List Bearer) (es : List Entry) (s : Settings) (x : Core) : Type 0 where
+  pub some : s.limit + grant_bound p.greatest bs ≤ s.period
+  pub each : (k : ℕ) → k < x.clock.closed → s.period + 1 ≤ offered_in k es + (s.limit + grant_bound p.greatest bs)
 
 abbrev pub Share : Law
-Share p bs es = OnceRunning (end_of (idle bs) es) (Shared p bs es)
+Share p bs es = OnceConfigured (end_of (put_up bs) es) (Shared p bs es)
 
 -- the record of the last period closed, if one has: what it offered, and the rest of it
 abbrev pub LastRecorded : ℕ → (ℕ → ℕ) → ℕ → Option Period → Type 0
@@ -76,8 +71,8 @@ LastRecorded period offered closed (Some d) = (k : ℕ) × (closed ≡ k + 1) ×
 
 -- what a report says of periods, after es and of the receiver then
 abbrev pub TruePeriods : List Entry → State → Report → Type 0
-TruePeriods es (idle bs) r = (r.closed ≡ 0) × (r.last ≡ None)
-TruePeriods es (running s x) r = (r.closed ≡ x.clock.closed) × LastRecorded s.period (λ k. offered_in k es) r.closed r.last
+TruePeriods es (unconfigured u) r = (r.closed ≡ 0) × (r.last ≡ None)
+TruePeriods es (configured s x) r = (r.closed ≡ x.clock.closed) × LastRecorded s.period (λ k. offered_in k es) r.closed r.last
 
 -- TRUE RECORDS. tell answers how many periods have closed, and of the last one what it offered the application and the rest of it.
 abbrev pub TrueRecords : Law
@@ -96,7 +91,7 @@ pub record Agrees (x : Core) (l : Ledger) : Type 0 where
   pub counts : x.counts ≡ counts_of l
 
 abbrev pub LedgerAgrees : Law
-LedgerAgrees p bs es = Throughout (idle bs) es (λ before t. OnceRunning t (λ s x. Agrees x (ledger bs before)))
+LedgerAgrees p bs es = Throughout (put_up bs) es (λ before t. OnceConfigured t (λ s x. Agrees x (ledger bs before)))
 
 -- a step that takes answers the front of the column last begun, and queued where the queue's column has room
 abbrev pub TrueStep : Option Progress → Ledger → Type 0
@@ -137,7 +132,7 @@ places n k =
 -- ONE PLACE. After every call, each number below the next stands exactly once in the ledger, and no other stands there.
 abbrev pub OnePlace : Law
 OnePlace p bs es =
-    Throughout (idle bs) es (λ before _. (n : ℕ) → places n (ledger bs before).columns ≡ cond (nat_lt n (ledger bs before).next) 1 0)
+    Throughout (put_up bs) es (λ before _. (n : ℕ) → places n (ledger bs before).columns ≡ cond (nat_lt n (ledger bs before).next) 1 0)
 
 -- the numbers fetched, and those that arrived on a bearer, in order
 abbrev pub fetched_by : Answer → List ℕ
@@ -172,27 +167,23 @@ abbrev pub ArrivalOrder : Law
 ArrivalOrder p bs es =
     (b m n : ℕ) → holds m (arrivals b es) ≡ true → holds n (arrivals b es) ≡ true → Before (fetches es) m n → Before (arrivals b es) m n
 
--- NEVER DEAF. Once configured, after every call, no packet waits in an armed bearer; and with the gate open, a bearer with packets is listed or served.
-pub record NotDeaf (s : RawSettings) (x : Core) : Type 0 where
+-- NO LOST WAKEUP. Once configured, after every call, no packet waits in an armed bearer; and with the gate open, a bearer with packets is listed or served.
+pub record NoWakeupLost (s : Settings) (x : Core) : Type 0 where
   pub armed_empty : (b : ℕ) → (bearer_of x.bearers b).armed ≡ true → waits x.bearers b ≡ []
   pub waiting_busy : is_open s x ≡ true → (b : ℕ) → waits x.bearers b ≢ [] → busy x b ≡ true
 
-abbrev pub NeverDeaf : Law
-NeverDeaf p bs es = Throughout (idle bs) es (λ _ t. OnceRunning t NotDeaf)
-
--- how often a bearer is armed, listed or served, counted together
-abbrev pub ways : Core → ℕ → ℕ
-ways x b = cond (bearer_of x.bearers b).armed 1 0 + (times b x.listed + cond (serves x.grant b) 1 0)
+abbrev pub NoLostWakeup : Law
+NoLostWakeup p bs es = Throughout (put_up bs) es (λ _ t. OnceConfigured t NoWakeupLost)
 
 -- ONE WAY. Once configured, after every call, a bearer is at most one of armed, listed and served, and is listed once at most; with the gate open each bearer
 -- shown is one of them, and with the gate shut none is armed.
-pub record OneWayEach (s : RawSettings) (x : Core) : Type 0 where
-  pub once : (b : ℕ) → ways x b ≤ 1
-  pub open_some : is_open s x ≡ true → (b : ℕ) → b < length x.bearers → ways x b ≡ 1
+pub record OneWayEach (s : Settings) (x : Core) : Type 0 where
+  pub once : (b : ℕ) → ways x.bearers x.listed x.grant b ≤ 1
+  pub open_some : is_open s x ≡ true → (b : ℕ) → b < length x.bearers → ways x.bearers x.listed x.grant b ≡ 1
   pub shut_unarmed : is_open s x ≡ false → (b : ℕ) → (bearer_of x.bearers b).armed ≡ false
 
 abbrev pub OneWay : Law
-OneWay p bs es = Throughout (idle bs) es (λ _ t. OnceRunning t OneWayEach)
+OneWay p bs es = Throughout (put_up bs) es (λ _ t. OnceConfigured t OneWayEach)
 
 -- the grants begun on a bearer
 abbrev pub begun_by : ℕ → Option Progress → ℕ
@@ -208,8 +199,8 @@ begins b = sum_by (λ (e : Entry). begun_on b e.answered)
 
 -- packets wait in a bearer
 abbrev pub Waiting : ℕ → State → Type 0
-Waiting b (idle bs) = waits bs b ≢ []
-Waiting b (running s x) = waits x.bearers b ≢ []
+Waiting b (unconfigured u) = waits u.bearers b ≢ []
+Waiting b (configured s x) = waits x.bearers b ≢ []
 
 abbrev pub AlwaysWaiting : ℕ → List Entry → Type 0
 AlwaysWaiting b [] = Unit {0}
@@ -221,7 +212,7 @@ abbrev pub EqualTurns : Law
 EqualTurns p bs es =
     (before stretch after : List Entry) → es ≡ before ++ (stretch ++ after) →
     (b c : ℕ) → b ≢ c →
-    Waiting c (end_of (idle bs) before) → AlwaysWaiting c stretch →
+    Waiting c (end_of (put_up bs) before) → AlwaysWaiting c stretch →
     begins b stretch ≤ begins c stretch + 1
 
 -- the packets that steps took
@@ -248,7 +239,7 @@ BoundedBatches p bs es =
 
 -- QUIET BETWEEN CALLS. Once configured, after every call every signal is down.
 abbrev pub Quiet : Law
-Quiet p bs es = Throughout (idle bs) es (λ _ t. OnceRunning t (λ s x. (b : ℕ) → (bearer_of x.bearers b).signal ≡ false))
+Quiet p bs es = Throughout (put_up bs) es (λ _ t. OnceConfigured t (λ s x. (b : ℕ) → (bearer_of x.bearers b).signal ≡ false))
 
 -- how many packets are somewhere: those that wait, are queued or are out, and those counted as delivered or dropped
 abbrev pub accounted : List Bearer → List Packet → List ℕ → Counts → ℕ
@@ -258,7 +249,7 @@ accounted bs q o n =
 -- BOUNDED MEMORY. Once configured, after every call, the poll list has no more entries than the board shows bearers, the queue no more than S packets, and
 -- at most sixteen numbers are out; as many packets are somewhere as are numbered; and at most 1,000,000,000 packets are numbered, and no more periods closed
 -- than that.
-pub record Within (s : RawSettings) (x : Core) : Type 0 where
+pub record Within (s : Settings) (x : Core) : Type 0 where
   pub listed : length x.listed ≤ length x.bearers
   pub queue : length x.queue ≤ s.size
   pub out : length x.out ≤ 16
@@ -267,4 +258,20 @@ pub record Within (s : RawSettings) (x : Core) : Type 0 where
   pub closed : x.clock.closed ≤ 1000000000
 
 abbrev pub BoundedMemory : Law
-BoundedMemory p bs es = Throughout (idle bs) es (λ _ t. OnceRunning t Within)
+BoundedMemory p bs es = Throughout (put_up bs) es (λ _ t. OnceConfigured t Within)
+
+-- All the laws together.
+pub record Lawful (p : Batches) (bs : List Bearer) (es : List Entry) : Type 0 where
+  pub refusals_leave : RefusalsLeave p bs es
+  pub share : Share p bs es
+  pub true_records : TrueRecords p bs es
+  pub ledger_agrees : LedgerAgrees p bs es
+  pub true_answers : TrueAnswers p bs es
+  pub one_place : OnePlace p bs es
+  pub arrival_order : ArrivalOrder p bs es
+  pub no_lost_wakeup : NoLostWakeup p bs es
+  pub one_way : OneWay p bs es
+  pub equal_turns : EqualTurns p bs es
+  pub bounded_batches : BoundedBatches p bs es
+  pub quiet : Quiet p bs es
+  pub bounded_memory : BoundedMemory p bs es

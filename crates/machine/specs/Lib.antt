@@ -2,6 +2,8 @@ pub mod Calls
 pub mod Checks
 pub mod Edges
 pub mod Examples
+pub mod Funded
+pub mod Kept
 pub mod Laws
 pub mod Ledger
 pub mod Machine
@@ -10,5 +12,7 @@ pub mod Numbers
 pub mod Refusals
 pub mod Settings
 pub mod Sharp
+pub mod Standard
 pub mod State
+pub mod Tidy
 pub mod Trace

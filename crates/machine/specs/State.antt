@@ -1,10 +1,10 @@
 -- What a receiver holds.
-use Rattle.std.specs.Prelude.{ℕ, Bool, false, ◌&&◌, ◌||◌, List, [], Some, None, Option, ◌==◌, nat_lt}
+use Rattle.std.specs.Prelude.{ℕ, Bool, false, ◌&&◌, ◌||◌, List, [], Some, None, Option, ◌==◌, nat_le, nat_lt}
 use Rattle.board.specs.declared.packets.Packet.{Packet}
 use Rattle.board.specs.Bearers.{Bearer, bearer_of}
 use Rattle.machine.specs.declared.answers.Counts.{Counts}
 use Rattle.machine.specs.declared.answers.Period.{Period}
-use Rattle.machine.specs.declared.calls.RawSettings.{RawSettings}
+use Rattle.machine.specs.Settings.{Settings}
 use Rattle.machine.specs.Numbers.{holds}
 
 -- the open period: cycles elapsed in it, used by bearers, offered to the application; the periods closed, and the last one's record
@@ -31,20 +31,22 @@ pub record Core : Type 0 where
   pub out : List ℕ
   pub counts : Counts
 
--- put up over bearers, or configured
+-- what a receiver holds until it is configured: the board's bearers
+pub record PutUp : Type 0 where
+  pub bearers : List Bearer
+
 pub data State : Type 0 where
-  idle : List Bearer → State
-  running : RawSettings → Core → State
+  unconfigured : PutUp → State
+  configured : Settings → Core → State
+
+-- a receiver just put up over bearers
+abbrev pub put_up : List Bearer → State
+put_up bs = unconfigured (record { bearers = bs })
 
 -- the numbers that are out
 abbrev pub out_of : State → List ℕ
-out_of (idle bs) = []
-out_of (running s x) = x.out
-
--- what a batch policy means: its quota for a bearer and the packets waiting there, and its greatest batch
-pub record Batches : Type 0 where
-  pub quota : ℕ → ℕ → ℕ
-  pub greatest : ℕ
+out_of (unconfigured u) = []
+out_of (configured s x) = x.out
 
 -- the packets waiting in a bearer
 abbrev pub waits : List Bearer → ℕ → List Packet
@@ -60,5 +62,9 @@ abbrev pub busy : Core → ℕ → Bool
 busy x b = holds b x.listed || serves x.grant b
 
 -- the gate is open while used is below N and the hold is 0
-abbrev pub is_open : RawSettings → Core → Bool
+abbrev pub is_open : Settings → Core → Bool
 is_open s x = nat_lt x.clock.used s.limit && x.hold == 0
+
+-- retired: 1,000,000,000 packets are numbered, or as many periods closed
+abbrev pub is_retired : Core → Bool
+is_retired x = nat_le 1000000000 x.counts.numbered || nat_le 1000000000 x.clock.closed

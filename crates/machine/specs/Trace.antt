@@ -3,7 +3,8 @@ use Rattle.std.specs.Prelude.{◌≡◌, List, [], ◌∷◌, ◌++◌, Result}
 use Rattle.machine.specs.declared.answers.Answer.{Answer}
 use Rattle.machine.specs.declared.calls.Call.{Call}
 use Rattle.machine.specs.declared.refusals.Refusal.{Refusal}
-use Rattle.machine.specs.State.{State, Batches}
+use Rattle.machine.specs.State.{State}
+use Rattle.policy.specs.Batches.{Batches}
 use Rattle.machine.specs.Machine.{call}
 
 -- one call: what was asked and answered, and the receiver before and after

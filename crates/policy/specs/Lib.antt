@@ -1,1 +1,2 @@
+pub mod Batches
 pub mod Quotas

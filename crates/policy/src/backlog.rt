@@ -1,4 +1,4 @@
-ghost use Rattle.policy.specs.Quotas.{backlog_quota};
+ghost use Rattle.policy.specs.Quotas.{backlog_batches};
 ghost use Rattle.std.proofs.Common.{rules};
 
 use crate::Policy;
@@ -12,9 +12,11 @@ impl Policy for Backlog {
 
     ghost GREATEST = { 8 };
 
-    ghost quotas = { λ _ _ w. backlog_quota w };
+    ghost meaning = { λ _. backlog_batches };
 
     ghost range = { Prim.search rules };
+
+    ghost greatest = { Prim.search rules };
 
     ghost bounds = { Prim.search rules };
 

@@ -1,5 +1,5 @@
 ghost use Rattle.std.specs.Prelude.{◌≡◌, ◌≤◌};
-ghost use Rattle.policy.specs.Quotas.{cut_figure};
+ghost use Rattle.policy.specs.Quotas.{cut_figure, fixed_batches};
 ghost use Rattle.policy.specs.declared.fixed.TheConstants.{MOST};
 ghost use Rattle.std.proofs.Common.{rules};
 
@@ -29,9 +29,11 @@ impl Policy for Fixed {
 
     ghost GREATEST = { MOST };
 
-    ghost quotas = { λ p _ _. p.figure };
+    ghost meaning = { λ p. fixed_batches p.figure };
 
     ghost range = { Prim.search rules };
+
+    ghost greatest = { Prim.search rules };
 
     ghost bounds = { Prim.search rules };
 

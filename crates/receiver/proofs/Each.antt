@@ -1,6 +1,6 @@
 -- A change made on one bearer after another is the change of all.
 use Rattle.std.proofs.Common.{◌≡◌, ℕ, false, ◌+◌, ◌-◌, ◌<◌, ◌≤◌, List, [], ◌∷◌, ◌++◌, map, length, take, drop, zero, suc, refl, ap, arith}
-use Rattle.board.specs.Bearers.{Bearer, bearer_of, any_waiting}
+use Rattle.board.specs.Bearers.{Bearer, bearer_of, any_in}
 use Rattle.machine.specs.State.{Core}
 use Rattle.machine.specs.Moves.{on_each}
 
@@ -16,7 +16,7 @@ all_changed f (suc i) (v ∷ bs) l = ap (λ r. v ∷ r) (all_changed f i bs (ome
 
 -- bearers in which nothing waits
 abbrev pub Empty : List Bearer → Type 0
-Empty bs = (b : ℕ) → any_waiting (bearer_of bs b).waiting ≡ false
+Empty bs = (b : ℕ) → any_in (bearer_of bs b).waiting ≡ false
 
 -- moves on one bearer after another, one on
 pub each_next : (move : ℕ → Core → Core) (i n : ℕ) (x : Core) → i < n → on_each move i (n - i) x ≡ on_each move (i + 1) (n - (i + 1)) (move i x)

@@ -1,7 +1,7 @@
 -- Questions that are asked of one bearer after another.
 use Rattle.std.proofs.Common.{◌≡◌, ℕ, ◌+◌, ◌<◌, ◌≤◌, true, false, not, max, List, length, drop, Some, None, ap, ◌∙◌, cond}
 use Rattle.std.proofs.lemmas.List.{at_drop_more, at_drop_all}
-use Rattle.board.specs.Bearers.{Bearer, absent, bearer_of, any_waiting}
+use Rattle.board.specs.Bearers.{Bearer, absent, bearer_of, any_in}
 use Rattle.machine.specs.declared.refusals.Refusal.TheVariants.{PacketWaits}
 use Rattle.machine.specs.Checks.{first_refusal}
 use Rattle.machine.specs.Settings.{highest_cost}
@@ -9,12 +9,12 @@ use Rattle.machine.specs.State.{waits}
 use Rattle.machine.specs.Machine.{waiting_checks}
 
 module _ (bs : List Bearer) (i : ℕ) where
-  pub waits_not : i < length bs → any_waiting (waits bs i) ≡ false → first_refusal (waiting_checks i (drop i bs)) ≡ first_refusal (waiting_checks (i + 1) (drop (i + 1) bs))
+  pub waits_not : i < length bs → any_in (waits bs i) ≡ false → first_refusal (waiting_checks i (drop i bs)) ≡ first_refusal (waiting_checks (i + 1) (drop (i + 1) bs))
   waits_not l e =
       at_drop_more (λ ds. first_refusal (waiting_checks i ds)) bs i absent l
       ∙ ap (λ t. cond (not t) (first_refusal (waiting_checks (i + 1) (drop (i + 1) bs))) (Some (PacketWaits i))) e
 
-  pub waits_here : i < length bs → any_waiting (waits bs i) ≡ true → first_refusal (waiting_checks i (drop i bs)) ≡ Some (PacketWaits i)
+  pub waits_here : i < length bs → any_in (waits bs i) ≡ true → first_refusal (waiting_checks i (drop i bs)) ≡ Some (PacketWaits i)
   waits_here l e =
       at_drop_more (λ ds. first_refusal (waiting_checks i ds)) bs i absent l
       ∙ ap (λ t. cond (not t) (first_refusal (waiting_checks (i + 1) (drop (i + 1) bs))) (Some (PacketWaits i))) e

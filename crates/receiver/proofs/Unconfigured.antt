@@ -1,77 +1,107 @@
 -- The calls that answer before the receiver is configured, too.
-use Rattle.std.proofs.Common.{◌≡◌, ◌≤◌, ℕ, [], Some, None, Ok, Err, Option, refl, ap, sym, ◌∙◌}
+use Rattle.std.proofs.Common.{◌≡◌, ℕ, Some, None, Ok, Err, Option, refl, ap, sym, ◌∙◌}
 use Rattle.std.proofs.lemmas.Bool.{cond_both}
+use Rattle.policy.specs.Batches.{Batches, IsBounded}
 use Rattle.machine.specs.declared.answers.Answer.{Answer}
-use Rattle.machine.specs.declared.calls.Call.{Call}
 use Rattle.machine.specs.declared.calls.Call.TheVariants.{Tell}
-use Rattle.machine.specs.declared.calls.RawSettings.{RawSettings}
 use Rattle.machine.specs.declared.refusals.Refusal.{Refusal}
 use Rattle.machine.specs.declared.refusals.Refusal.TheVariants.{NotOut}
+use Rattle.machine.specs.Calls.{tell, spend}
 use Rattle.machine.specs.Checks.{first_refusal}
+use Rattle.machine.specs.Machine.{out_checks, call, checks_of, effect_of}
+use Rattle.machine.specs.Moves.{set_gate}
 use Rattle.machine.specs.Numbers.{holds}
-use Rattle.machine.specs.State.{Core, idle, Batches, is_open}
-use Rattle.machine.specs.Calls.{tell}
-use Rattle.machine.specs.Machine.{out_checks, checked, running_call, call}
+use Rattle.machine.specs.Settings.{Settings}
+use Rattle.machine.specs.State.{Core, is_open, put_up}
 use Rattle.machine.proofs.Unmoved.{gate_same}
-use Rattle.receiver.specs.declared.settings.Settings.{Settings}
-use Rattle.receiver.specs.Settings.{raw}
+use Rattle.receiver.specs.declared.ends.End.{End}
+use Rattle.receiver.specs.declared.ends.End.TheVariants.{Delivered, Discarded}
+use Rattle.receiver.specs.declared.settings.Settings.{Settings as HeldSettings}
 use Rattle.receiver.specs.Empty.{empty_over}
-use Rattle.receiver.specs.Sound.{state_of, Sound}
-use Rattle.receiver.specs.Receivers.{Receiving, batches, answer_to, after}
-use Rattle.receiver.proofs.Called.{Comes, comes_refused, comes_accepted, answers, shows, bounded, sound}
+use Rattle.receiver.specs.Ends.{call_of, answer_of, one_of}
+use Rattle.receiver.specs.Fields.{state_of, IsKept}
+use Rattle.receiver.specs.Receivers.{Receiving, answer_to, after}
+use Rattle.receiver.specs.Settings.{settings_of}
+use Rattle.receiver.proofs.Called.{Comes, comes_refused, comes_accepted, answers, shows, kept_settled}
 
-module _ (p : Batches) (o : Option Settings) (x : Core) where
-  pub tells : Sound p o x → Comes p Tell (state_of o x) (Ok (tell x).0) (state_of o x)
+-- a number that is not out is refused, whether or not the receiver is configured
+refused_as : (n : ℕ) (x : Core) (r : Refusal) → Some r ≡ first_refusal (out_checks n x) → r ≡ NotOut
+refused_as n x r e = cond_both (holds n x.out) _ _ (λ (q : Option Refusal). Some r ≡ q → r ≡ NotOut) (λ _ i. cc i) (λ _ i. cc i) e
+
+-- and no number is out before
+none_out : (m n : ℕ) (x : Core) → IsKept m None x → None ≡ first_refusal (out_checks n x) → ⊥
+none_out m n x k e = let f : None ≡ first_refusal (out_checks n (empty_over x.bearers)) = e ∙ ap (λ (y : Core). first_refusal (out_checks n y)) k in cc f
+
+-- what either end is to the machine
+module _ (p : Batches) (x : Core) (n : ℕ) where
+  before : (end : End) → Comes p (call_of end n) (put_up x.bearers) (Err NotOut) (put_up x.bearers)
   unfolding call
-  tells k = by o k
+  before Delivered = refl
+  before Discarded = refl
+
+  checks : (end : End) (s : Settings) → checks_of s x (call_of end n) ≡ out_checks n x
+  checks Delivered s = refl
+  checks Discarded s = refl
+
+  effect : (end : End) (s : Settings) → effect_of s x p (call_of end n) ≡ (answer_of end, spend n (one_of end) x)
+  effect Delivered s = refl
+  effect Discarded s = refl
+
+module _ (p : Batches) (o : Option HeldSettings) (x : Core) where
+  pub tells : (m : ℕ) → IsKept m o x → Comes p Tell (state_of o x) (Ok (tell x).0) (state_of o x)
+  unfolding call
+  tells m k = by o k
     where
-      by : (q : Option Settings) → Sound p q x → Comes p Tell (state_of q x) (Ok (tell x).0) (state_of q x)
-      by None e = ap (λ (y : Core). (Ok (tell y).0, idle x.bearers)) (sym e)
-      by (Some s) k = comes_accepted p (raw s) x Tell [] (tell x) refl (tell x).0 x refl refl (gate_same (raw s) x x refl)
+      by : (q : Option HeldSettings) → IsKept m q x → Comes p Tell (state_of q x) (Ok (tell x).0) (state_of q x)
+      by None e = ap (λ (y : Core). (Ok (tell y).0, put_up x.bearers)) (sym e)
+      by (Some s) k = comes_accepted p (settings_of s) x Tell x refl (gate_same (settings_of s) x x refl)
 
-  -- a number that is not out is refused, whether or not the receiver is configured
-  refused_as : (n : ℕ) (r : Refusal) → Some r ≡ first_refusal (out_checks n x) → r ≡ NotOut
-  refused_as n r e = cond_both (holds n x.out) _ _ (λ (q : Option Refusal). Some r ≡ q → r ≡ NotOut) (λ _ i. cc i) (λ _ i. cc i) e
-
-  -- and no number is out before
-  none_out : (n : ℕ) → Sound p None x → None ≡ first_refusal (out_checks n x) → ⊥
-  none_out n k e = let f : None ≡ first_refusal (out_checks n (empty_over x.bearers)) = e ∙ ap (λ (y : Core). first_refusal (out_checks n y)) k in cc f
-
-  module _ (n : ℕ) (c : Call) (done : Answer × Core) (idly : call p c (idle x.bearers) ≡ (Err NotOut, idle x.bearers)) (is : (s : RawSettings) → running_call s x p c ≡ checked s x (out_checks n x) done) where
-    pub unspent : (r : Refusal) → Some r ≡ first_refusal (out_checks n x) → Comes p c (state_of o x) (Err r) (state_of o x)
+  module _ (n : ℕ) (end : End) where
+    unspent : (r : Refusal) → Some r ≡ first_refusal (out_checks n x) → Comes p (call_of end n) (state_of o x) (Err r) (state_of o x)
     unspent r e = by o
       where
-        by : (q : Option Settings) → Comes p c (state_of q x) (Err r) (state_of q x)
-        by None = idly ∙ ap (λ (t : Refusal). (Err t, idle x.bearers)) (sym (refused_as n r e))
-        by (Some s) = comes_refused p (raw s) x c (out_checks n x) done (is (raw s)) r e
+        by : (q : Option HeldSettings) → Comes p (call_of end n) (state_of q x) (Err r) (state_of q x)
+        by None = before p x n end ∙ ap (λ (t : Refusal). (Err t, put_up x.bearers)) (sym (refused_as n x r e))
+        by (Some s) = comes_refused p (settings_of s) x (call_of end n) r (e ∙ ap first_refusal (sym (checks p x n end (settings_of s))))
 
-    pub spent : Sound p o x → (y : Core) → None ≡ first_refusal (out_checks n x) → y ≡ done.1 → ((s : RawSettings) → is_open s done.1 ≡ is_open s x) → Comes p c (state_of o x) (Ok done.0) (state_of o y)
-    spent k y e f same = by o k
+    -- with settings: neither used nor the hold changes, so the gate stays
+    spent_settled : (s : HeldSettings) → None ≡ first_refusal (out_checks n x) →
+        Comes p (call_of end n) (state_of (Some s) x) (Ok (answer_of end)) (state_of (Some s) (spend n (one_of end) x))
+    spent_settled s e =
+        let t : Settings = settings_of s in
+        let z : Core = spend n (one_of end) x in
+        comes_accepted p t x (call_of end n) z (e ∙ ap first_refusal (sym (checks p x n end t)))
+        (gate_same t x z refl ∙ ap (λ (d : Answer × Core). set_gate t x d.1) (sym (effect p x n end t)))
+        ∙ ap (λ (d : Answer × Core). (Ok d.0, state_of (Some s) z)) (effect p x n end t)
+
+    spent : (m : ℕ) → IsKept m o x → None ≡ first_refusal (out_checks n x) →
+        Comes p (call_of end n) (state_of o x) (Ok (answer_of end)) (state_of o (spend n (one_of end) x))
+    spent m k e = by o k
       where
-        by : (q : Option Settings) → Sound p q x → Comes p c (state_of q x) (Ok done.0) (state_of q y)
-        by None k = absurd (none_out n k e)
-        by (Some s) k = comes_accepted p (raw s) x c (out_checks n x) done (is (raw s)) done.0 y e refl (f ∙ gate_same (raw s) x done.1 (same (raw s)))
+        by : (q : Option HeldSettings) → IsKept m q x → Comes p (call_of end n) (state_of q x) (Ok (answer_of end)) (state_of q (spend n (one_of end) x))
+        by None k = absurd (none_out m n x k e)
+        by (Some s) k = spent_settled s e
 
--- What finish and discard answer and show, of a number n that the receipt has.
-module _ {P : Type 0} (quotas : P → ℕ → ℕ → ℕ) (greatest : ℕ) (o : Option Settings) (x : Core) {y : P} {v : Receiving P} (is : record { policy = y; state = state_of o x } ≡ v) (n : ℕ) (c : Call) (done : Answer × Core)
-    (idly : call (batches (quotas y) greatest) c (idle x.bearers) ≡ (Err NotOut, idle x.bearers)) (by : (s : RawSettings) → running_call s x (batches (quotas y) greatest) c ≡ checked s x (out_checks n x) done) {m : ℕ} (number : m ≡ n) where
-  pub hands_back : {r : Refusal} {z : Core} → z ≡ x → Some r ≡ first_refusal (out_checks m x) →
-      record { value : Err r ≡ answer_to quotas greatest c v; after : record { policy = y; state = state_of o z } ≡ after quotas greatest c v }
+-- What a receiver answers and shows when a receipt of number n is spent, or not.
+module _ {P : Type 0} (meaning : P → Batches) (o : Option HeldSettings) (x : Core) {y : P} {v : Receiving P} (is : record { policy = y; state = state_of o x } ≡ v)
+    (n : ℕ) (end : End) where
+  pub hands_back : {r : Refusal} {z : Core} → z ≡ x → Some r ≡ first_refusal (out_checks n x) →
+      record { value : Err r ≡ answer_to meaning (call_of end n) v; after : record { policy = y; state = state_of o z } ≡ after meaning (call_of end n) v }
   hands_back {r = r} same failed =
-      let comes = unspent (batches (quotas y) greatest) o x n c done idly by r (failed ∙ ap (λ (k : ℕ). first_refusal (out_checks k x)) number) in
-      record { value = answers quotas greatest y x is refl c comes; after = shows quotas greatest y x is refl c comes (ap (state_of o) same) }
+      let comes = unspent (meaning y) o x n end r failed in
+      record { value = answers meaning y x is refl (call_of end n) comes; after = shows meaning y x is refl (call_of end n) comes (ap (state_of o) same) }
 
-  module _ (bounds : (b w : ℕ) → (1 ≤ quotas y b w) × (quotas y b w ≤ greatest)) (range : (1 ≤ greatest) × (greatest ≤ 64)) (k : Sound (batches (quotas y) greatest) o x) (same : (s : RawSettings) → is_open s done.1 ≡ is_open s x)
-      {z : Core} (passed : None ≡ first_refusal (out_checks m x)) (did : z ≡ done.1) where
-    comes : Comes (batches (quotas y) greatest) c (state_of o x) (Ok done.0) (state_of o z)
-    comes = spent (batches (quotas y) greatest) o x n c done idly by k z (passed ∙ ap (λ (j : ℕ). first_refusal (out_checks j x)) number) did same
+  module _ (bounded : IsBounded (meaning y)) {most : ℕ} (greatest : (meaning y).greatest ≡ most) (k : IsKept most o x) {z : Core} (passed : None ≡ first_refusal (out_checks n x)) (did : z ≡ spend n (one_of end) x) where
+    pub spends : record { value : Ok (answer_of end) ≡ answer_to meaning (call_of end n) v; after : record { policy = y; state = state_of o z } ≡ after meaning (call_of end n) v }
+    spends =
+        let comes = spent (meaning y) o x n end most k passed in
+        record { value = answers meaning y x is refl (call_of end n) comes; after = shows meaning y x is refl (call_of end n) comes (ap (state_of o) did) }
 
-    pub spends : record { value : Ok done.0 ≡ answer_to quotas greatest c v; after : record { policy = y; state = state_of o z } ≡ after quotas greatest c v }
-    spends = record { value = answers quotas greatest y x is refl c comes; after = shows quotas greatest y x is refl c comes refl }
-
-    pub spent_sound : Sound (batches (quotas y) greatest) o z
-    spent_sound = by_settings o k comes
+    pub spent_kept : IsKept most o z
+    spent_kept = by o k
       where
-        by_settings : (q : Option Settings) → Sound (batches (quotas y) greatest) q x → Comes (batches (quotas y) greatest) c (state_of q x) (Ok done.0) (state_of q z) → Sound (batches (quotas y) greatest) q z
-        by_settings None k e = absurd (none_out (batches (quotas y) greatest) None x n k (passed ∙ ap (λ (j : ℕ). first_refusal (out_checks j x)) number))
-        by_settings (Some s) k e = sound (bounded bounds range) c x {s = s} refl k e
+        by : (q : Option HeldSettings) → IsKept most q x → IsKept most q z
+        by None k = absurd (none_out most n x k passed)
+        by (Some s) k =
+            kept_settled bounded greatest (call_of end n) x {s = s} refl k
+            (spent_settled (meaning y) o x n end s passed ∙ ap (λ u. (Ok (answer_of end), state_of (Some s) u)) (sym did))

@@ -2,7 +2,7 @@
 use Rattle.std.specs.Prelude.{Some, None, Option}
 use Rattle.machine.specs.State.{Clock, Grant}
 use Rattle.receiver.specs.declared.clocks.Clock.{Clock as HeldClock}
-use Rattle.receiver.specs.declared.clocks.Grant.{Grant as HeldGrant}
+use Rattle.receiver.specs.declared.grants.Grant.{Grant as HeldGrant}
 
 abbrev pub clock_of : HeldClock → Clock
 clock_of k = record { elapsed = k.elapsed; used = k.used; offered = k.offered; closed = k.closed; last = k.last }

@@ -1,7 +1,8 @@
 pub mod Empty
+pub mod Ends
+pub mod Fields
 pub mod Figures
 pub mod Held
 pub mod Places
 pub mod Receivers
 pub mod Settings
-pub mod Sound

@@ -1,6 +1,6 @@
--- Settings as the plain numbers that they were made from.
-use Rattle.machine.specs.declared.calls.RawSettings.{RawSettings}
-use Rattle.receiver.specs.declared.settings.Settings.{Settings}
+-- A receiver's settings as the state machine has them.
+use Rattle.machine.specs.Settings.{Settings}
+use Rattle.receiver.specs.declared.settings.Settings.{Settings as HeldSettings}
 
-abbrev pub raw : Settings → RawSettings
-raw s = record { period = s.period; limit = s.limit; size = s.size; high = s.high; low = s.low; hold = s.hold }
+abbrev pub settings_of : HeldSettings → Settings
+settings_of s = record { period = s.period; limit = s.limit; size = s.size; high = s.high; low = s.low; hold = s.hold }

@@ -1,21 +1,21 @@
 ghost use Rattle.std.specs.Result.{result_err};
 ghost use Rattle.std.specs.Prelude.{◌≡◌, ◌<◌, ◌≤◌, ◌≢◌, true, None, length, OnOk, OnErr};
 ghost use Rattle.std.specs.List.{slice_get};
-ghost use Rattle.board.specs.Bearers.{bearer_of, changed, after_offer};
+ghost use Rattle.board.specs.Bearers.{bearer_of, changed, after_offer, any_in};
 ghost use Rattle.machine.specs.State.{waits};
 ghost use Rattle.machine.specs.declared.answers.Answer.TheVariants.{Arrived, Stepped, Fetched};
 ghost use Rattle.machine.specs.Checks.{first_refusal};
-ghost use Rattle.machine.specs.Machine.{any_left, out_checks, step_by};
-ghost use Rattle.machine.specs.Numbers.{without};
-ghost use Rattle.machine.specs.Calls.{next_packet, arrive, begin, has_queue_room, queued, take_by, close, serve, fetch, finish, discard};
+ghost use Rattle.machine.specs.Machine.{out_checks};
+ghost use Rattle.machine.specs.Calls.{next_packet, arrive, begin, has_queue_room, queued, take_by, close, serve, step, fetch, spend};
+ghost use Rattle.receiver.specs.Ends.{one_of};
 ghost use Rattle.receiver.specs.Figures.{Timely, Counted};
 ghost use Rattle.receiver.specs.Held.{grant_of};
 ghost use Rattle.receiver.specs.Places.{StandsAt};
-ghost use Rattle.receiver.specs.Receivers.{batches};
-ghost use Rattle.receiver.specs.Settings.{raw};
+ghost use Rattle.receiver.specs.Settings.{settings_of};
 
-use crate::clocks::Grant;
+use crate::grants::Grant;
 use crate::cores::{BEGIN_CHARGE, Core};
+use crate::ends::End;
 use crate::settings::Settings;
 use board::{Board, Packet, class_cost};
 use machine::{Arrival, Progress, Refusal};
@@ -39,8 +39,8 @@ impl<B: Board> Core<B> {
         requires counts { Counted self.old.counts }
         requires length { octets ≤ 384 }
         requires room { (bearer_of (changed self.old.bearers bearer (after_offer (next_packet octets tag self.old))) bearer).signal ≡ true → length self.old.listed < 8 }
-        ensures value { Arrived result ≡ (arrive (raw settings.now) bearer octets tag self.old).0 }
-        ensures after { self.new ≡ (arrive (raw settings.now) bearer octets tag self.old).1 }
+        ensures value { Arrived result ≡ (arrive (settings_of settings.now) bearer octets tag self.old).0 }
+        ensures after { self.new ≡ (arrive (settings_of settings.now) bearer octets tag self.old).1 }
     {
         let number = self.counts.numbered;
         self.counts.numbered += 1;
@@ -65,9 +65,9 @@ impl<B: Board> Core<B> {
     fn begin<P: Policy>(&mut self, settings: &Settings, policy: &P) -> Progress
         requires time { Timely self.old.clock }
         requires offered { self.old.clock.offered ≤ settings.now.period }
-        requires listed { any_left self.old.listed ≡ true }
-        ensures value { Stepped result ≡ (begin (raw settings.now) (batches (P.quotas policy.now) P.GREATEST) self.old).0 }
-        ensures after { self.new ≡ (begin (raw settings.now) (batches (P.quotas policy.now) P.GREATEST) self.old).1 }
+        requires listed { any_in self.old.listed ≡ true }
+        ensures value { Stepped result ≡ (begin (settings_of settings.now) (P.meaning policy.now) self.old).0 }
+        ensures after { self.new ≡ (begin (settings_of settings.now) (P.meaning policy.now) self.old).1 }
     {
         let bearer = self.listed.pop().unwrap();
         let quota = policy.quota(bearer, self.board.waiting(bearer));
@@ -82,8 +82,8 @@ impl<B: Board> Core<B> {
     /// Puts a packet into the queue, or drops it if the queue is full.
     fn enqueue(&mut self, settings: &Settings, packet: Packet) -> bool
         requires counts { Counted self.old.counts }
-        ensures value { result ≡ has_queue_room (raw settings.now) self.old }
-        ensures after { self.new ≡ queued (raw settings.now) packet self.old }
+        ensures value { result ≡ has_queue_room (settings_of settings.now) self.old }
+        ensures after { self.new ≡ queued (settings_of settings.now) packet self.old }
     {
         let room = self.queue.len() < settings.size;
         if room {
@@ -101,8 +101,8 @@ impl<B: Board> Core<B> {
         requires offered { self.old.clock.offered ≤ settings.now.period }
         requires counts { Counted self.old.counts }
         requires left { grant.left ≢ 0 }
-        ensures value { Stepped result ≡ (take_by (raw settings.now) (grant_of grant) (slice_get (waits self.old.bearers grant.bearer) 0) self.old).0 }
-        ensures after { self.new ≡ (take_by (raw settings.now) (grant_of grant) (slice_get (waits self.old.bearers grant.bearer) 0) self.old).1 }
+        ensures value { Stepped result ≡ (take_by (settings_of settings.now) (grant_of grant) (slice_get (waits self.old.bearers grant.bearer) 0) self.old).0 }
+        ensures after { self.new ≡ (take_by (settings_of settings.now) (grant_of grant) (slice_get (waits self.old.bearers grant.bearer) 0) self.old).1 }
     {
         let cost = self.board.cost(grant.bearer);
         let Some(packet) = self.board.take(grant.bearer) else {
@@ -128,8 +128,8 @@ impl<B: Board> Core<B> {
     /// Ends a grant: its bearer gets another turn if packets wait in it, and is armed otherwise.
     fn close(&mut self, settings: &Settings, grant: Grant) -> Progress
         requires room { length self.old.listed < 8 }
-        ensures value { Stepped result ≡ (close (raw settings.now) (grant_of grant) self.old).0 }
-        ensures after { self.new ≡ (close (raw settings.now) (grant_of grant) self.old).1 }
+        ensures value { Stepped result ≡ (close (settings_of settings.now) (grant_of grant) self.old).0 }
+        ensures after { self.new ≡ (close (settings_of settings.now) (grant_of grant) self.old).1 }
     {
         self.grant = None;
         if self.board.waiting(grant.bearer) > 0 {
@@ -149,8 +149,8 @@ impl<B: Board> Core<B> {
         requires offered { self.old.clock.offered ≤ settings.now.period }
         requires counts { Counted self.old.counts }
         requires room { length self.old.listed < 8 }
-        ensures value { Stepped result ≡ (serve (raw settings.now) (grant_of grant) self.old).0 }
-        ensures after { self.new ≡ (serve (raw settings.now) (grant_of grant) self.old).1 }
+        ensures value { Stepped result ≡ (serve (settings_of settings.now) (grant_of grant) self.old).0 }
+        ensures after { self.new ≡ (serve (settings_of settings.now) (grant_of grant) self.old).1 }
     {
         if grant.left == 0 {
             self.close(settings, grant)
@@ -164,10 +164,10 @@ impl<B: Board> Core<B> {
         requires time { Timely self.old.clock }
         requires offered { self.old.clock.offered ≤ settings.now.period }
         requires counts { Counted self.old.counts }
-        requires listed { self.old.grant ≡ None → any_left self.old.listed ≡ true }
+        requires listed { self.old.grant ≡ None → any_in self.old.listed ≡ true }
         requires room { self.old.grant ≢ None → length self.old.listed < 8 }
-        ensures value { Stepped result ≡ (step_by (raw settings.now) (batches (P.quotas policy.now) P.GREATEST) self.old.grant self.old).0 }
-        ensures after { self.new ≡ (step_by (raw settings.now) (batches (P.quotas policy.now) P.GREATEST) self.old.grant self.old).1 }
+        ensures value { Stepped result ≡ (step (settings_of settings.now) (P.meaning policy.now) self.old.grant self.old).0 }
+        ensures after { self.new ≡ (step (settings_of settings.now) (P.meaning policy.now) self.old.grant self.old).1 }
     {
         match self.grant {
             None => self.begin(settings, policy),
@@ -178,10 +178,10 @@ impl<B: Board> Core<B> {
     /// Hands over the queue's first packet.
     #[tactic(auto, unfolding(machine::specs::Calls::fetch))]
     pub(crate) fn fetch(&mut self, settings: &Settings) -> Packet
-        requires queued { any_left self.old.queue ≡ true }
+        requires queued { any_in self.old.queue ≡ true }
         requires room { length self.old.out < 16 }
-        ensures value { Fetched result ≡ (fetch (raw settings.now) self.old).0 }
-        ensures after { self.new ≡ (fetch (raw settings.now) self.old).1 }
+        ensures value { Fetched result ≡ (fetch (settings_of settings.now) self.old).0 }
+        ensures after { self.new ≡ (fetch (settings_of settings.now) self.old).1 }
     {
         let packet = self.queue.pop().unwrap();
         if self.queue.len() <= settings.low {
@@ -204,42 +204,19 @@ impl<B: Board> Core<B> {
         None
     }
 
-    /// Takes a number off those that are out, if it is one of them.
-    fn spend(&mut self, number: u32) -> Result<(), Refusal>
+    /// Takes a number off those that are out, if it is one of them, and counts its packet.
+    pub(crate) fn spend(&mut self, number: u32, end: End) -> Result<(), Refusal>
+        requires counts { Counted self.old.counts }
         ensures value { result_err result ≡ first_refusal (out_checks number self.old) }
-        ensures after { OnOk result (self.new ≡ record self.old { out = without number self.old.out }) }
+        ensures after { OnOk result (self.new ≡ spend number (one_of end) self.old) }
         ensures same { OnErr result (self.new ≡ self.old) }
     {
-        match self.place_out(number) {
-            Some(place) => {
-                self.out.remove(place);
-                Ok(())
-            }
-            None => Err(Refusal::NotOut),
+        let place = self.place_out(number).ok_or(Refusal::NotOut)?;
+        self.out.remove(place);
+        match end {
+            End::Delivered => self.counts.delivered += 1,
+            End::Discarded => self.counts.discarded += 1,
         }
-    }
-
-    /// Counts the packet of a number that is out as delivered.
-    pub(crate) fn finish(&mut self, number: u32) -> Result<(), Refusal>
-        requires counts { Counted self.old.counts }
-        ensures value { result_err result ≡ first_refusal (out_checks number self.old) }
-        ensures after { OnOk result (self.new ≡ (finish number self.old).1) }
-        ensures same { OnErr result (self.new ≡ self.old) }
-    {
-        self.spend(number)?;
-        self.counts.delivered += 1;
-        Ok(())
-    }
-
-    /// Counts the packet of a number that is out as discarded.
-    pub(crate) fn discard(&mut self, number: u32) -> Result<(), Refusal>
-        requires counts { Counted self.old.counts }
-        ensures value { result_err result ≡ first_refusal (out_checks number self.old) }
-        ensures after { OnOk result (self.new ≡ (discard number self.old).1) }
-        ensures same { OnErr result (self.new ≡ self.old) }
-    {
-        self.spend(number)?;
-        self.counts.discarded += 1;
         Ok(())
     }
 }

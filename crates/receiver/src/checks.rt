@@ -1,28 +1,23 @@
 ghost use Rattle.std.specs.Result.{result_err};
-ghost use Rattle.std.specs.Prelude.{◌≡◌, ℕ, ◌+◌, ◌≤◌, [], ◌∷◌, nat_le};
-ghost use Rattle.machine.specs.declared.refusals.Refusal.TheVariants.{NoShare};
+ghost use Rattle.std.specs.Prelude.{◌≡◌, ◌≤◌, [], ◌∷◌};
 ghost use Rattle.machine.specs.Checks.{first_refusal};
-ghost use Rattle.machine.specs.Settings.{highest_cost, grant_bound};
-ghost use Rattle.machine.specs.Machine.{not_retired, waiting_checks, arrive_checks, step_checks, work_checks, fetch_checks};
+ghost use Rattle.machine.specs.Settings.{highest_cost};
+ghost use Rattle.machine.specs.Machine.{retirement_check, share_check, waiting_checks, arrive_checks, step_checks, work_checks, fetch_checks};
 ghost use Rattle.receiver.specs.Figures.{Timely};
 ghost use Rattle.receiver.specs.Held.{grant_of};
-ghost use Rattle.receiver.specs.Receivers.{batches};
-ghost use Rattle.receiver.specs.Settings.{raw};
+ghost use Rattle.receiver.specs.Settings.{settings_of};
 
 use crate::cores::{BEGIN_CHARGE, Core, MOST_OUT};
 use crate::settings::Settings;
-use board::Board;
+use board::{Board, HIGHEST_CLASS_COST};
 use machine::Refusal;
 
 /// Packets numbered, or periods closed, after which a receiver is retired.
 const RETIREMENT: u32 = 1_000_000_000;
 
-/// The class cost of the longest packets.
-const HIGHEST_CLASS_COST: u32 = 1_360;
-
 impl<B: Board> Core<B> {
-    fn check_age(&self) -> Result<(), Refusal>
-        ensures value { result_err result ≡ first_refusal (not_retired self.now ∷ []) }
+    fn check_retired(&self) -> Result<(), Refusal>
+        ensures value { result_err result ≡ first_refusal (retirement_check self.now ∷ []) }
     {
         if self.counts.numbered >= RETIREMENT || self.clock.closed >= RETIREMENT {
             return Err(Refusal::Retired);
@@ -33,7 +28,7 @@ impl<B: Board> Core<B> {
     pub(crate) fn check_arrive(&self, bearer: usize, octets: usize) -> Result<(), Refusal>
         ensures value { result_err result ≡ first_refusal (arrive_checks bearer octets self.now) }
     {
-        self.check_age()?;
+        self.check_retired()?;
         if bearer >= self.board.size() {
             return Err(Refusal::NotShown(bearer));
         }
@@ -44,9 +39,9 @@ impl<B: Board> Core<B> {
     }
 
     pub(crate) fn check_step(&self, settings: &Settings) -> Result<(), Refusal>
-        ensures value { result_err result ≡ first_refusal (step_checks (raw settings.now) self.now self.now.grant) }
+        ensures value { result_err result ≡ first_refusal (step_checks (settings_of settings.now) self.now self.now.grant) }
     {
-        self.check_age()?;
+        self.check_retired()?;
         if self.grant.is_some() {
             return Ok(());
         }
@@ -64,9 +59,9 @@ impl<B: Board> Core<B> {
 
     pub(crate) fn check_work(&self, settings: &Settings, cycles: u64) -> Result<(), Refusal>
         requires time { Timely self.now.clock }
-        ensures value { result_err result ≡ first_refusal (work_checks (raw settings.now) cycles self.now) }
+        ensures value { result_err result ≡ first_refusal (work_checks (settings_of settings.now) cycles self.now) }
     {
-        self.check_age()?;
+        self.check_retired()?;
         if !(1..=settings.period).contains(&cycles) {
             return Err(Refusal::BadWork);
         }
@@ -118,7 +113,7 @@ impl<B: Board> Core<B> {
     /// Refuses where the limit and the grant bound together are above the period.
     pub(crate) fn check_share(&self, settings: &Settings, greatest: u32) -> Result<(), Refusal>
         requires greatest { greatest ≤ 64 }
-        ensures value { (quotas : ℕ → ℕ → ℕ) → result_err result ≡ first_refusal ((nat_le (settings.now.limit + grant_bound (batches quotas greatest) self.now.bearers) settings.now.period, NoShare) ∷ []) }
+        ensures value { result_err result ≡ first_refusal (share_check greatest (settings_of settings.now) self.now.bearers ∷ []) }
     {
         let grant_bound = BEGIN_CHARGE + greatest * (self.highest_cost() + HIGHEST_CLASS_COST);
         if settings.limit + u64::from(grant_bound) > settings.period {

@@ -14,11 +14,3 @@ pub struct Clock {
     /// The record of the last one.
     pub last: Option<Period>,
 }
-
-/// A bearer's turn.
-#[derive(Clone, Copy)]
-pub struct Grant {
-    pub bearer: usize,
-    /// How many packets it may still take.
-    pub left: u32,
-}

@@ -3,9 +3,10 @@ ghost use Rattle.machine.specs.declared.answers.Answer.TheVariants.{Told};
 ghost use Rattle.machine.specs.Calls.{tell};
 ghost use Rattle.receiver.specs.Empty.{empty_over};
 
-use crate::clocks::{Clock, Grant};
+use crate::clocks::Clock;
+use crate::grants::Grant;
 use arrayvec::ArrayVec;
-use board::{Board, Packet};
+use board::{Board, MOST_BEARERS, Packet};
 use machine::{Counts, Report};
 use ring::Queue;
 use std::marker::Model;
@@ -24,7 +25,7 @@ pub(crate) struct Core<B: Board> {
     /// Periods until polling goes on; 0 is no hold.
     pub hold: u64,
     /// The poll list.
-    pub listed: Queue<usize, 8>,
+    pub listed: Queue<usize, MOST_BEARERS>,
     pub grant: Option<Grant>,
     /// Packets for the application.
     pub queue: Queue<Packet, 64>,
@@ -69,11 +70,7 @@ impl<B: Board> Core<B> {
             hold: 0,
             listed: Queue::new(0),
             grant: None,
-            queue: Queue::new(Packet {
-                number: 0,
-                length: 0,
-                tag: 0,
-            }),
+            queue: Queue::new(Packet::BLANK),
             out: ArrayVec::new(),
             counts: Counts {
                 numbered: 0,

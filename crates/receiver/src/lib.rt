@@ -7,7 +7,9 @@ mod calls;
 mod checks;
 mod clocks;
 mod cores;
+mod ends;
 mod gates;
+mod grants;
 mod moves;
 mod receipts;
 mod receivers;
@@ -15,6 +17,7 @@ mod settings;
 #[cfg(test)]
 mod tests;
 
+pub use cores::MOST_OUT;
 pub use receipts::{Receipt, Unspent};
 pub use receivers::Receiver;
 pub use settings::Settings;

@@ -1,10 +1,10 @@
 ghost use Rattle.std.specs.Prelude.{◌≡◌, ◌+◌, ◌<◌, ◌≤◌, false, length};
-ghost use Rattle.board.specs.Bearers.{any_waiting};
+ghost use Rattle.board.specs.Bearers.{any_in};
 ghost use Rattle.machine.specs.State.{waits, busy, is_open};
 ghost use Rattle.machine.specs.Numbers.{holds};
 ghost use Rattle.machine.specs.Moves.{arm, disarm, join, settle, charge, offer_cycles, open_bearer};
 ghost use Rattle.receiver.specs.Figures.{Timely};
-ghost use Rattle.receiver.specs.Settings.{raw};
+ghost use Rattle.receiver.specs.Settings.{settings_of};
 
 use crate::clocks::Clock;
 use crate::cores::Core;
@@ -15,7 +15,7 @@ use machine::Period;
 impl<B: Board> Core<B> {
     /// Whether the gate is open.
     pub(crate) fn is_open(&self, settings: &Settings) -> bool
-        ensures value { result ≡ is_open (raw settings.now) self.now }
+        ensures value { result ≡ is_open (settings_of settings.now) self.now }
     {
         self.clock.used < settings.limit && self.hold == 0
     }
@@ -56,7 +56,7 @@ impl<B: Board> Core<B> {
 
     /// Arms a bearer in which nothing waits.
     pub(crate) fn arm(&mut self, bearer: usize)
-        requires empty { any_waiting (waits self.old.bearers bearer) ≡ false }
+        requires empty { any_in (waits self.old.bearers bearer) ≡ false }
         ensures after { self.new ≡ arm bearer self.old }
     {
         self.board.arm(bearer);
@@ -82,7 +82,7 @@ impl<B: Board> Core<B> {
     fn settle(&mut self, settings: &Settings)
         requires offered { self.old.clock.offered ≤ settings.now.period }
         requires closed { self.old.clock.closed ≤ 1000000000 }
-        ensures after { self.new ≡ settle (raw settings.now) self.old.clock self.old }
+        ensures after { self.new ≡ settle (settings_of settings.now) self.old.clock self.old }
     {
         if self.clock.elapsed < settings.period {
             return;
@@ -107,7 +107,7 @@ impl<B: Board> Core<B> {
         requires cycles { cycles ≤ 1000000000 }
         requires time { Timely self.old.clock }
         requires offered { self.old.clock.offered ≤ settings.now.period }
-        ensures after { self.new ≡ charge (raw settings.now) cycles self.old }
+        ensures after { self.new ≡ charge (settings_of settings.now) cycles self.old }
     {
         self.clock.elapsed += cycles;
         self.clock.used += cycles;
@@ -118,7 +118,7 @@ impl<B: Board> Core<B> {
     pub(crate) fn offer_cycles(&mut self, settings: &Settings, cycles: u64)
         requires time { Timely self.old.clock }
         requires offered { self.old.clock.offered + cycles ≤ settings.now.period }
-        ensures after { self.new ≡ offer_cycles (raw settings.now) cycles self.old }
+        ensures after { self.new ≡ offer_cycles (settings_of settings.now) cycles self.old }
     {
         self.clock.elapsed += cycles;
         self.clock.offered += cycles;

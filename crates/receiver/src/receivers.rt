@@ -1,11 +1,13 @@
 ghost use Rattle.std.specs.Prelude.{◌≡◌, false, Ok, IfOk, IfErr};
 ghost use Rattle.std.specs.Result.{result_map_both};
-ghost use Rattle.machine.specs.State.{idle};
+ghost use Rattle.machine.specs.State.{put_up};
 ghost use Rattle.machine.specs.declared.answers.Answer.TheVariants.{Configured, Arrived, Stepped, Worked, Fetched, Finished, Discarded, Told};
 ghost use Rattle.machine.specs.declared.calls.Call.TheVariants.{Configure, Arrive, Step, Work, Fetch, Finish, Discard, Tell};
+ghost use Rattle.receiver.specs.Ends.{answer_of, call_of};
 ghost use Rattle.receiver.specs.Receivers.{answer_to, after, answered, elapsed_in};
 
 use crate::cores::Core;
+use crate::ends::End;
 use crate::receipts::{Receipt, Unspent};
 use crate::settings::Settings;
 use board::{Board, Packet};
@@ -23,20 +25,20 @@ pub struct Receiver<B: Board, P: Policy> {
 }
 
 impl<B: Board, P: Policy> Model for Receiver<B, P> {
-    ghost use Rattle.receiver.specs.Receivers.{Receiving, batches};
-    ghost use Rattle.receiver.specs.Sound.{state_of, Sound};
+    ghost use Rattle.receiver.specs.Receivers.{Receiving};
+    ghost use Rattle.receiver.specs.Fields.{state_of, IsKept};
 
     ghost Value = { Receiving P };
 
     ghost view = { λ r. record { policy = r.policy; state = state_of r.settings r.core } };
 
-    ghost invariant = { λ r. Sound (batches (P.quotas r.policy) P.GREATEST) r.settings r.core };
+    ghost invariant = { λ r. IsKept P.GREATEST r.settings r.core };
 }
 
 impl<B: Board, P: Policy> Receiver<B, P> {
     /// Puts up a receiver over a board and a policy: nothing is in it, and its gate is shut.
     pub fn new(board: B, policy: P) -> Self
-        ensures value { result ≡ record { policy = policy; state = idle (B.bearers board) } }
+        ensures value { result ≡ record { policy = policy; state = put_up (B.bearers board) } }
     {
         Receiver {
             core: Core::new(board),
@@ -47,8 +49,8 @@ impl<B: Board, P: Policy> Receiver<B, P> {
 
     /// Configures the receiver, once.
     pub fn configure(&mut self, numbers: RawSettings) -> Result<(), Refusal>
-        ensures value { answered (λ _. Configured) result ≡ answer_to P.quotas P.GREATEST (Configure numbers) self.old }
-        ensures after { self.new ≡ after P.quotas P.GREATEST (Configure numbers) self.old }
+        ensures value { answered (λ _. Configured) result ≡ answer_to P.meaning (Configure numbers) self.old }
+        ensures after { self.new ≡ after P.meaning (Configure numbers) self.old }
     {
         if self.settings.is_some() {
             return Err(Refusal::AlreadyConfigured);
@@ -66,12 +68,10 @@ impl<B: Board, P: Policy> Receiver<B, P> {
 
     /// Numbers a packet and offers it to its bearer.
     pub fn arrive(&mut self, bearer: usize, length: usize, tag: u32) -> Result<Arrival, Refusal>
-        ensures value { answered Arrived result ≡ answer_to P.quotas P.GREATEST (Arrive bearer length tag) self.old }
-        ensures after { self.new ≡ after P.quotas P.GREATEST (Arrive bearer length tag) self.old }
+        ensures value { answered Arrived result ≡ answer_to P.meaning (Arrive bearer length tag) self.old }
+        ensures after { self.new ≡ after P.meaning (Arrive bearer length tag) self.old }
     {
-        let Some(settings) = self.settings else {
-            return Err(Refusal::NotConfigured);
-        };
+        let settings = self.settings.ok_or(Refusal::NotConfigured)?;
         self.core.check_arrive(bearer, length)?;
         let was_open = self.core.is_open(&settings);
         let arrival = self.core.arrive(&settings, bearer, length, tag);
@@ -81,12 +81,10 @@ impl<B: Board, P: Policy> Receiver<B, P> {
 
     /// Goes on with the polling: begins a grant, takes a packet by it, or closes it.
     pub fn step(&mut self) -> Result<Progress, Refusal>
-        ensures value { answered Stepped result ≡ answer_to P.quotas P.GREATEST Step self.old }
-        ensures after { self.new ≡ after P.quotas P.GREATEST Step self.old }
+        ensures value { answered Stepped result ≡ answer_to P.meaning Step self.old }
+        ensures after { self.new ≡ after P.meaning Step self.old }
     {
-        let Some(settings) = self.settings else {
-            return Err(Refusal::NotConfigured);
-        };
+        let settings = self.settings.ok_or(Refusal::NotConfigured)?;
         self.core.check_step(&settings)?;
         let was_open = self.core.is_open(&settings);
         let progress = self.core.step(&settings, &self.policy);
@@ -96,12 +94,10 @@ impl<B: Board, P: Policy> Receiver<B, P> {
 
     /// Offers cycles to the application.
     pub fn work(&mut self, cycles: u64) -> Result<(), Refusal>
-        ensures value { answered (λ _. Worked) result ≡ answer_to P.quotas P.GREATEST (Work cycles) self.old }
-        ensures after { self.new ≡ after P.quotas P.GREATEST (Work cycles) self.old }
+        ensures value { answered (λ _. Worked) result ≡ answer_to P.meaning (Work cycles) self.old }
+        ensures after { self.new ≡ after P.meaning (Work cycles) self.old }
     {
-        let Some(settings) = self.settings else {
-            return Err(Refusal::NotConfigured);
-        };
+        let settings = self.settings.ok_or(Refusal::NotConfigured)?;
         self.core.check_work(&settings, cycles)?;
         let was_open = self.core.is_open(&settings);
         self.core.offer_cycles(&settings, cycles);
@@ -111,13 +107,11 @@ impl<B: Board, P: Policy> Receiver<B, P> {
 
     /// Hands over the queue's first packet, and its receipt.
     pub fn fetch(&mut self) -> Result<(Packet, Receipt), Refusal>
-        ensures value { answered (λ r. Fetched r.0) result ≡ answer_to P.quotas P.GREATEST Fetch self.old }
+        ensures value { answered (λ r. Fetched r.0) result ≡ answer_to P.meaning Fetch self.old }
         ensures receipt { IfOk result (λ r. r.1 ≡ record { number = r.0.number; spent = false }) }
-        ensures after { self.new ≡ after P.quotas P.GREATEST Fetch self.old }
+        ensures after { self.new ≡ after P.meaning Fetch self.old }
     {
-        let Some(settings) = self.settings else {
-            return Err(Refusal::NotConfigured);
-        };
+        let settings = self.settings.ok_or(Refusal::NotConfigured)?;
         self.core.check_fetch()?;
         let was_open = self.core.is_open(&settings);
         let packet = self.core.fetch(&settings);
@@ -125,13 +119,13 @@ impl<B: Board, P: Policy> Receiver<B, P> {
         Ok((packet, Receipt::of(packet)))
     }
 
-    /// Spends a receipt: its packet is delivered.
-    pub fn finish(&mut self, receipt: Receipt) -> Result<(), Unspent>
-        ensures value { result_map_both (λ _. Finished) (λ u. u.refusal) result ≡ answer_to P.quotas P.GREATEST (Finish receipt.number) self.old }
+    /// Spends a receipt, to the end that its packet comes to.
+    fn spend(&mut self, receipt: Receipt, end: End) -> Result<(), Unspent>
+        ensures value { result_map_both (λ _. answer_of end) (λ u. u.refusal) result ≡ answer_to P.meaning (call_of end receipt.number) self.old }
         ensures receipt { IfErr result (λ u. u.receipt ≡ receipt) }
-        ensures after { self.new ≡ after P.quotas P.GREATEST (Finish receipt.number) self.old }
+        ensures after { self.new ≡ after P.meaning (call_of end receipt.number) self.old }
     {
-        if let Err(refusal) = self.core.finish(receipt.number()) {
+        if let Err(refusal) = self.core.spend(receipt.number(), end) {
             return Err(receipt.refused(refusal));
         }
         // Neither used nor the hold has changed, so the gate stays.
@@ -139,23 +133,27 @@ impl<B: Board, P: Policy> Receiver<B, P> {
         Ok(())
     }
 
+    /// Spends a receipt: its packet is delivered.
+    pub fn finish(&mut self, receipt: Receipt) -> Result<(), Unspent>
+        ensures value { result_map_both (λ _. Finished) (λ u. u.refusal) result ≡ answer_to P.meaning (Finish receipt.number) self.old }
+        ensures receipt { IfErr result (λ u. u.receipt ≡ receipt) }
+        ensures after { self.new ≡ after P.meaning (Finish receipt.number) self.old }
+    {
+        self.spend(receipt, End::Delivered)
+    }
+
     /// Spends a receipt: its packet is dropped, as discarded.
     pub fn discard(&mut self, receipt: Receipt) -> Result<(), Unspent>
-        ensures value { result_map_both (λ _. Discarded) (λ u. u.refusal) result ≡ answer_to P.quotas P.GREATEST (Discard receipt.number) self.old }
+        ensures value { result_map_both (λ _. Discarded) (λ u. u.refusal) result ≡ answer_to P.meaning (Discard receipt.number) self.old }
         ensures receipt { IfErr result (λ u. u.receipt ≡ receipt) }
-        ensures after { self.new ≡ after P.quotas P.GREATEST (Discard receipt.number) self.old }
+        ensures after { self.new ≡ after P.meaning (Discard receipt.number) self.old }
     {
-        if let Err(refusal) = self.core.discard(receipt.number()) {
-            return Err(receipt.refused(refusal));
-        }
-        // The gate stays, as above.
-        receipt.spend();
-        Ok(())
+        self.spend(receipt, End::Discarded)
     }
 
     /// Reads every count, the periods closed, and the record of the last.
     pub fn tell(&self) -> Report
-        ensures value { Ok (Told result) ≡ answer_to P.quotas P.GREATEST Tell self.now }
+        ensures value { Ok (Told result) ≡ answer_to P.meaning Tell self.now }
     {
         self.core.tell()
     }

@@ -6,9 +6,10 @@ use Rattle.std.proofs.lemmas.Bool.{cond_both, leb-true, leb-false, eqb-true, eqb
 use Rattle.capture.specs.declared.packets.Captured.{Captured}
 use Rattle.machine.specs.declared.calls.Call.{Call}
 use Rattle.machine.specs.declared.calls.Call.TheVariants.{Step, Work, Fetch, Finish}
-use Rattle.machine.specs.Examples.{standard}
-use Rattle.machine.specs.Machine.{any_left, call}
-use Rattle.machine.specs.State.{Batches}
+use Rattle.machine.specs.Standard.{standard}
+use Rattle.machine.specs.Machine.{call}
+use Rattle.board.specs.Bearers.{any_in}
+use Rattle.policy.specs.Batches.{Batches}
 use Rattle.replay.specs.Stages.{Task, Stage, core, closed, now, to_end, moment, span, is_due, is_through, is_over, arrival, turn}
 
 -- no packet is due, the application's packet is not through, and a step is refused
@@ -24,9 +25,9 @@ pub data Applies (p : Batches) (x : Stage) : Option Call → Type 0 where
   finishes : {t : Task} → closed x < 1000 → is_due x ≡ false → x.task ≡ Some t → t.to_go ≡ 0 → Applies p x (Some (Finish t.number))
   steps : closed x < 1000 → is_due x ≡ false → is_through x ≡ false → is_ok (call p Step x.receiver).0 ≡ true → Applies p x (Some Step)
   works : {t : Task} → Past p x → x.task ≡ Some t → (t.to_go ≡ 0 → ⊥) → Applies p x (Some (Work (min t.to_go (span x))))
-  fetches : Past p x → x.task ≡ None → any_left (core x.receiver).queue ≡ true → Applies p x (Some Fetch)
-  over : Past p x → x.task ≡ None → any_left (core x.receiver).queue ≡ false → is_over x ≡ true → Applies p x None
-  idles : Past p x → x.task ≡ None → any_left (core x.receiver).queue ≡ false → is_over x ≡ false → Applies p x (Some (Work (span x)))
+  fetches : Past p x → x.task ≡ None → any_in (core x.receiver).queue ≡ true → Applies p x (Some Fetch)
+  over : Past p x → x.task ≡ None → any_in (core x.receiver).queue ≡ false → is_over x ≡ true → Applies p x None
+  idles : Past p x → x.task ≡ None → any_in (core x.receiver).queue ≡ false → is_over x ≡ false → Applies p x (Some (Work (span x)))
 
 -- a task that is not there
 no_task : (o : Option Task) → is_some o ≡ false → o ≡ None
@@ -62,7 +63,7 @@ module _ (p : Batches) (x : Stage) where
       (λ r. let k : Past p x = record { few = c; due = d; through = t; refused = r } in
       cond_both (is_some x.task) _ _ (Applies p x) (work_case k x.task refl)
       (λ n. let none = no_task x.task n in
-      cond_both (any_left (core x.receiver).queue) _ _ (Applies p x) (fetches k none)
+      cond_both (any_in (core x.receiver).queue) _ _ (Applies p x) (fetches k none)
       (λ q. cond_both (is_over x) _ _ (Applies p x) (over k none q) (idles k none q)))))))
 
 -- how far work goes where no packet is due

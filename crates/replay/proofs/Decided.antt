@@ -12,10 +12,11 @@ use Rattle.machine.specs.declared.answers.Progress.TheVariants.{Begun, Empty, Ta
 use Rattle.machine.specs.declared.calls.Call.{Call}
 use Rattle.machine.specs.declared.calls.Call.TheVariants.{Configure, Arrive, Step, Work, Fetch, Finish, Discard, Tell}
 use Rattle.machine.specs.declared.refusals.Refusal.{Refusal}
-use Rattle.machine.specs.State.{Batches, idle}
+use Rattle.machine.specs.State.{put_up}
+use Rattle.policy.specs.Batches.{Batches, IsBounded}
 use Rattle.machine.specs.Trace.{Entry, trace}
 use Rattle.machine.specs.Ledger.{Ledger, Columns, nothing, column, put_in, taken_from, spent, accepted, told, depths_of, ledger, queue_room, column_room}
-use Rattle.machine.specs.Laws.{Bounded, closed_in, TrueAnswer, Truly}
+use Rattle.machine.specs.Laws.{closed_in, TrueAnswer, Truly}
 use Rattle.machine.specs.Numbers.{holds}
 use Rattle.machine.proofs.Agreement.{true_answers}
 use Rattle.machine.proofs.Basics.{front}
@@ -207,8 +208,8 @@ rightly_keeps n depths es e l r t i =
     (decides_noted l.columns (told depths e.asked e.answered l).columns (decided e.asked e.answered) (settles_told depths l e.asked e.answered t)
     (closed_in e.after) (fates n es) i (r i))
 
-pub decides : (p : Batches) → Bounded p → (bs : List Bearer) (cs : List Call) (n i : ℕ) →
-    DecidesAt (slice_get (fates n (trace p (idle bs) cs)) i) i (ledger bs (trace p (idle bs) cs)).columns
+pub decides : (p : Batches) → IsBounded p → (bs : List Bearer) (cs : List Call) (n i : ℕ) →
+    DecidesAt (slice_get (fates n (trace p (put_up bs) cs)) i) i (ledger bs (trace p (put_up bs) cs)).columns
 decides p q bs cs n =
-    let es : List Entry = trace p (idle bs) cs in
+    let es : List Entry = trace p (put_up bs) cs in
     told_keeps (Rightly n) bs (rightly_starts n (length bs)) (rightly_keeps n (depths_of bs)) p es (true_answers p q bs cs) es [] (sym (append-nil es))

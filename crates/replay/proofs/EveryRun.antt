@@ -4,8 +4,8 @@ use Rattle.capture.specs.declared.packets.Captured.{Captured}
 use Rattle.capture.specs.Meaning.{Meaning}
 use Rattle.capture.specs.Savefile.{meaning}
 use Rattle.machine.specs.declared.calls.Call.TheVariants.{Configure}
-use Rattle.machine.specs.Examples.{four, standard, standard_board}
-use Rattle.machine.specs.Laws.{Bounded}
+use Rattle.machine.specs.Standard.{standard_board, four, standard_numbers}
+use Rattle.policy.specs.Batches.{IsBounded}
 use Rattle.machine.specs.declared.answers.Answer.{Answer}
 use Rattle.machine.specs.declared.refusals.Refusal.{Refusal}
 use Rattle.machine.specs.State.{State}
@@ -27,7 +27,7 @@ every_run : (m : Meaning) (P : (ps : List Captured) → StandardRun ps → Type 
 every_run (Ok ps) P f = f ps refl
 every_run (Err e) P f = tt
 
-four_bounded : Bounded four
+four_bounded : IsBounded four
 four_bounded = record { least = λ _ _. omega arith; most = λ _ _. omega arith; small = omega arith }
 
 -- the first stage of a capture that is read is fit
@@ -64,4 +64,4 @@ rows_by_ledger bytes =
     (λ ps e r. by_ledger four standard_board standard_configured four_bounded ps r (fits_first bytes ps e))
 
 pub laws : (bytes : List ℕ) → EveryRun (meaning 3 bytes) (λ _ r. Lawful four standard_board (entries four standard_board r.calls))
-laws bytes = every_run (meaning 3 bytes) (λ _ r. Lawful four standard_board (entries four standard_board r.calls)) (λ _ _ r. lawful four four_bounded standard_board (Configure standard ∷ r.calls))
+laws bytes = every_run (meaning 3 bytes) (λ _ r. Lawful four standard_board (entries four standard_board r.calls)) (λ _ _ r. lawful four four_bounded standard_board (Configure standard_numbers ∷ r.calls))

@@ -11,11 +11,11 @@ use Rattle.machine.specs.declared.answers.Answer.{Answer}
 use Rattle.machine.specs.declared.calls.Call.{Call}
 use Rattle.machine.specs.declared.calls.Call.TheVariants.{Step, Work, Fetch}
 use Rattle.machine.specs.declared.calls.RawSettings.{RawSettings}
-use Rattle.machine.specs.Examples.{standard}
-use Rattle.machine.specs.Laws.{Bounded}
+use Rattle.machine.specs.Standard.{standard}
 use Rattle.machine.specs.Machine.{call}
 use Rattle.machine.specs.Moves.{is_over}
-use Rattle.machine.specs.State.{Clock, Grant, Core, running, Batches}
+use Rattle.machine.specs.State.{Clock, Grant, Core, configured}
+use Rattle.policy.specs.Batches.{Batches, IsBounded}
 use Rattle.machine.proofs.Moved.{Move, signalled, begun, emptied, taken, rescheduled, completed, worked, fetched, Happens, moved, happened}
 use Rattle.machine.proofs.Periods.{settled}
 use Rattle.machine.proofs.Unmoved.{gate_unmoved}
@@ -100,7 +100,7 @@ module _ (p : Batches) (x : Core) where
   move_lighter _ _ _ (fetched e) = omega (arith, ap length e)
   move_lighter _ _ _ _ = omega arith
 
-  lighter : (c : Call) (a : Answer) (z : Core) {v : RawSettings} → Happens p (running standard x) c (Ok a) (running v z) → Lighter c z
+  lighter : (c : Call) (a : Answer) (z : Core) {v : RawSettings} → Happens p (configured standard x) c (Ok a) (configured v z) → Lighter c z
   lighter c a _ (moved {y = y} m _) =
       let u = gate_unmoved standard x y in
       omega (arith, move_lighter c a y m, ap granted u.grant, ap length u.queue, ap time u.clock)
@@ -120,7 +120,7 @@ same_task : (c : ℕ) (task : Option Task) → has_task (option_map (λ (u : Tas
 same_task c None = refl
 same_task c (Some t) = refl
 
-module _ (p : Batches) (bounded : Bounded p) (x : Stage) (f : Fit p x) where
+module _ (p : Batches) (bounded : IsBounded p) (x : Stage) (f : Fit p x) where
   abbrev FallsOn : Option Call → Type 0
   FallsOn None = Unit {0}
   FallsOn (Some c) = fall (after p c x) < fall x
@@ -129,7 +129,7 @@ module _ (p : Batches) (bounded : Bounded p) (x : Stage) (f : Fit p x) where
   falls_if c g l =
       let a = here p x f (λ t. (call p c t).0 ≡ Ok g.answer) g.answered in
       let h = there p x f (λ t. Lighter p (core x.receiver) c (core (call p c t).1))
-      (lighter p (core x.receiver) c g.answer _ (happened p c (running standard (core x.receiver)) a (runs p standard (core x.receiver) c))) in
+      (lighter p (core x.receiver) c g.answer _ (happened p c (configured standard (core x.receiver)) a (runs p standard (core x.receiver) c))) in
       omega (arith, h, l, f.1.closed, f.1.elapsed, g.fit.1.closed, g.fit.1.elapsed)
 
   falls_on : (o : Option Call) → ((c : Call) → o ≡ Some c → Goes p x c) → Applies p x o → FallsOn o
@@ -142,7 +142,7 @@ module _ (p : Batches) (bounded : Bounded p) (x : Stage) (f : Fit p x) where
   falls_on _ g (over k n q o) = tt
   falls_on _ g (idles k n q o) = falls_if _ (g _ refl) (omega (arith, span_least x k.due f.1.elapsed, same_task (span x) x.task))
 
-pub falls : (p : Batches) → Bounded p → (x : Stage) → Fit p x → (c : Call) → turn p x ≡ Some c → fall (after p c x) < fall x
+pub falls : (p : Batches) → IsBounded p → (x : Stage) → Fit p x → (c : Call) → turn p x ≡ Some c → fall (after p c x) < fall x
 falls p bounded x f c e = subst (FallsOn p bounded x f) e (falls_on p bounded x f (turn p x) (turn_goes p bounded x f) (applies p x))
 
 -- at the start

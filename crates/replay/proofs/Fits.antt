@@ -4,7 +4,7 @@ use Rattle.std.specs.List.{AllByRecursion}
 use Rattle.std.proofs.lemmas.Bool.{eq-eqb}
 use Rattle.std.proofs.lemmas.List.{length-map}
 use Rattle.board.specs.declared.packets.Packet.{Packet}
-use Rattle.board.specs.Bearers.{Bearer, bearer_of, has_room, after_arm, after_disarm}
+use Rattle.board.specs.Bearers.{Bearer, bearer_of, has_room, after_arm, after_disarm, any_in}
 use Rattle.capture.specs.declared.packets.Captured.{Captured}
 use Rattle.machine.specs.declared.answers.Answer.{Answer}
 use Rattle.machine.specs.declared.answers.Answer.TheVariants.{Configured, Arrived, Worked, Fetched, Finished}
@@ -13,11 +13,12 @@ use Rattle.machine.specs.declared.calls.Call.{Call}
 use Rattle.machine.specs.declared.calls.Call.TheVariants.{Configure, Step, Work, Fetch, Finish}
 use Rattle.machine.specs.declared.calls.RawSettings.{RawSettings}
 use Rattle.machine.specs.declared.refusals.Refusal.{Refusal}
-use Rattle.machine.specs.Examples.{standard}
-use Rattle.machine.specs.Laws.{Bounded}
-use Rattle.machine.specs.Machine.{any_left, fresh, call}
+use Rattle.machine.specs.Standard.{standard, standard_numbers}
+use Rattle.machine.specs.Machine.{fresh, call}
 use Rattle.machine.specs.Numbers.{holds, without}
-use Rattle.machine.specs.State.{Core, State, idle, running, Batches, out_of}
+use Rattle.machine.specs.State.{Core, State, configured, out_of}
+use Rattle.machine.specs.State.{put_up}
+use Rattle.policy.specs.Batches.{Batches, IsBounded}
 use Rattle.machine.proofs.Basics.{none_left}
 use Rattle.machine.proofs.Kept.{Kept, KeptState, keeps, call_keeps}
 use Rattle.machine.proofs.Moved.{Happens, happened}
@@ -50,7 +51,7 @@ record Front {A : Type 0} (xs : List A) : Type 0 where
   pub rest : List A
   pub same : xs ≡ head ∷ rest
 
-front : {A : Type 0} (xs : List A) → any_left xs ≡ true → Front xs
+front : {A : Type 0} (xs : List A) → any_in xs ≡ true → Front xs
 front [] h = cc h
 front (x ∷ xs) h = record { head = x; rest = xs; same = refl }
 
@@ -61,15 +62,15 @@ accepted (Err q) h = cc h
 module _ (p : Batches) where
   -- what a configured receiver holds after a call
   abbrev pub left_by : RawSettings → Core → Call → Core
-  left_by s x c = core (call p c (running s x)).1
+  left_by s x c = core (call p c (configured s x)).1
 
-  pub runs : (s : RawSettings) (x : Core) (c : Call) → (call p c (running s x)).1 ≡ running s (left_by s x c)
+  pub runs : (s : RawSettings) (x : Core) (c : Call) → (call p c (configured s x)).1 ≡ configured s (left_by s x c)
   unfolding call
   runs s x c = refl
 
 module _ (p : Batches) {x : Core} {coming : List Captured} {first : ℕ} {task : Option Task} (f : FitCore p x coming first task) where
   abbrev answer : Call → Result Answer Refusal
-  answer c = (call p c (running standard x)).0
+  answer c = (call p c (configured standard x)).0
 
   first_readable : (q : Captured) (qs : List Captured) → coming ≡ q ∷ qs → AllByRecursion (Readable (length x.bearers) first) (q ∷ qs)
   first_readable q qs e = subst (AllByRecursion (Readable (length x.bearers) first)) e f.readable
@@ -95,12 +96,12 @@ module _ (p : Batches) {x : Core} {coming : List Captured} {first : ℕ} {task :
   is_out t e = rw (out_is t e) (held_alone t.number)
 
   -- an accepted call leaves all fit, where it leaves these packets to arrive and the application this packet
-  stays : Bounded p → x.clock.closed < 1000 → (c : Call) (a : Answer) → answer c ≡ Ok a → (qs : List Captured) (u : Option Task) →
+  stays : IsBounded p → x.clock.closed < 1000 → (c : Call) (a : Answer) → answer c ≡ Ok a → (qs : List Captured) (u : Option Task) →
       out_by c (Ok a) x.out ≡ numbers_of u → numbered_by c x.counts.numbered + length qs ≤ 1024 → AllByRecursion (Readable (length x.bearers) first) qs →
       FitCore p (left_by p standard x c) qs first u
   stays bounded l c a e qs u o n r =
-      let h : Happens p (running standard x) c (Ok a) (running standard (left_by p standard x c)) = happened p c (running standard x) e (runs p standard x c) in
-      let kept : Kept p standard _ = call_keeps p bounded (running standard x) _ c (Ok a) f.kept h in
+      let h : Happens p (configured standard x) c (Ok a) (configured standard (left_by p standard x c)) = happened p c (configured standard x) e (runs p standard x c) in
+      let kept : Kept p standard _ = call_keeps p bounded (configured standard x) _ c (Ok a) f.kept h in
       record {
         kept = kept;
         elapsed = below_period p standard x _ f.elapsed (passes h) kept;
@@ -126,26 +127,26 @@ module _ (p : Batches) (x : Stage) (f : Fit p x) where
   held = core x.receiver
 
   -- what holds of the receiver as it is configured, holds of the stage's
-  pub there : (P : State → Type 0) → P (running standard held) → P x.receiver
+  pub there : (P : State → Type 0) → P (configured standard held) → P x.receiver
   there P = subst P (sym f.0)
 
-  pub here : (P : State → Type 0) → P x.receiver → P (running standard held)
+  pub here : (P : State → Type 0) → P x.receiver → P (configured standard held)
   here P = subst P f.0
 
   -- the receiver is left fit
   abbrev Stays : Call → State → Type 0
   Stays c t =
-      ((call p c t).1 ≡ running standard (core (call p c t).1))
+      ((call p c t).1 ≡ configured standard (core (call p c t).1))
       × FitCore p (core (call p c t).1) (coming_after c x.coming) x.first (task_after c (call p c t).0 x.task)
 
   -- a call with this answer
-  goes : (c : Call) (a : Answer) → (call p c (running standard held)).0 ≡ Ok a →
+  goes : (c : Call) (a : Answer) → (call p c (configured standard held)).0 ≡ Ok a →
       FitCore p (left_by p standard held c) (coming_after c x.coming) x.first (task_after c (Ok a) x.task) → Goes p x c
   goes c a e k = record {
     answer = a;
     answered = there (λ t. (call p c t).0 ≡ Ok a) e;
     numbered = there (λ t. (core (call p c t).1).counts.numbered ≡ numbered_by c held.counts.numbered)
-        (numbers (happened p c (running standard held) e (runs p standard held c)));
+        (numbers (happened p c (configured standard held) e (runs p standard held c)));
     fit = there (Stays c)
         (runs p standard held c, subst (λ r. FitCore p (left_by p standard held c) (coming_after c x.coming) x.first (task_after c r x.task)) (sym e) k);
   }
@@ -154,16 +155,16 @@ module _ (p : Batches) (x : Stage) (f : Fit p x) where
   pub task_out : (t : Task) → x.task ≡ Some t → holds t.number (out_of x.receiver) ≡ true
   task_out t e = there (λ u. holds t.number (out_of u) ≡ true) (is_out p f.1 t e)
 
-  pub fetched_if_left : x.task ≡ None → any_left held.queue ≡ is_ok (call p Fetch x.receiver).0
-  fetched_if_left n = there (λ t. any_left held.queue ≡ is_ok (call p Fetch t).0) (by (any_left held.queue) refl)
+  pub fetched_if_left : x.task ≡ None → any_in held.queue ≡ is_ok (call p Fetch x.receiver).0
+  fetched_if_left n = there (λ t. any_in held.queue ≡ is_ok (call p Fetch t).0) (by (any_in held.queue) refl)
     where
-      by : (b : Bool) → any_left held.queue ≡ b → any_left held.queue ≡ is_ok (call p Fetch (running standard held)).0
+      by : (b : Bool) → any_in held.queue ≡ b → any_in held.queue ≡ is_ok (call p Fetch (configured standard held)).0
       by true h = let q = front held.queue h in h ∙ sym (ap is_ok (fetch_fit p f.1 q.head q.rest n q.same))
       by false h = h ∙ sym (fetch_none p standard held (none_left held.queue h))
 
-  module _ (bounded : Bounded p) where
+  module _ (bounded : IsBounded p) where
     -- one that leaves the packets still to arrive as they are, and is given no number
-    goes_same : closed x < 1000 → (c : Call) (a : Answer) → (call p c (running standard held)).0 ≡ Ok a →
+    goes_same : closed x < 1000 → (c : Call) (a : Answer) → (call p c (configured standard held)).0 ≡ Ok a →
         coming_after c x.coming ≡ x.coming → numbered_by c held.counts.numbered ≡ held.counts.numbered →
         out_by c (Ok a) held.out ≡ numbers_of (task_after c (Ok a) x.task) → Goes p x c
     goes_same l c a e same n o =
@@ -181,9 +182,9 @@ module _ (p : Batches) (x : Stage) (f : Fit p x) where
         (stays p f.1 bounded l (arrival q) _ a (drop 1 x.coming) x.task f.1.out
         (omega (arith, f.1.few, ap length e, ap (λ (k : List Captured). length (drop 1 k)) e)) (rw e (first_readable p f.1 q qs e).1))
     goes_on _ (finishes {t = t} l d e z) =
-        goes_same l (Finish t.number) Finished (finish_done p t.number (running standard held) (is_out p f.1 t e)) refl refl (rw (out_is p f.1 t e) (spent_alone t.number))
+        goes_same l (Finish t.number) Finished (finish_done p t.number (configured standard held) (is_out p f.1 t e)) refl refl (rw (out_is p f.1 t e) (spent_alone t.number))
     goes_on _ (steps l d h o) =
-        let a = accepted (call p Step (running standard held)).0 (here (λ t. is_ok (call p Step t).0 ≡ true) o) in
+        let a = accepted (call p Step (configured standard held)).0 (here (λ t. is_ok (call p Step t).0 ≡ true) o) in
         goes_same l Step a.0 a.1 refl refl f.1.out
     goes_on _ (works {t = t} k e z) = works_on k.few _ (omega (arith, z, span_least x k.due f.1.elapsed)) (omega (arith, span_most x))
     goes_on _ (fetches k n h) =
@@ -194,20 +195,20 @@ module _ (p : Batches) (x : Stage) (f : Fit p x) where
     goes_on _ (idles k n q o) = works_on k.few (span x) (span_least x k.due f.1.elapsed) (span_most x)
 
 -- every turn's call is accepted, and leads to a fit stage
-pub turn_goes : (p : Batches) → Bounded p → (x : Stage) → Fit p x → (c : Call) → turn p x ≡ Some c → Goes p x c
+pub turn_goes : (p : Batches) → IsBounded p → (x : Stage) → Fit p x → (c : Call) → turn p x ≡ Some c → Goes p x c
 turn_goes p bounded x f c e = subst (GoesOn p x) e (goes_on p x f bounded (turn p x) (applies p x))
 
-pub stays_fit : (p : Batches) → Bounded p → (x : Stage) → Fit p x → (c : Call) → turn p x ≡ Some c → Fit p (after p c x)
+pub stays_fit : (p : Batches) → IsBounded p → (x : Stage) → Fit p x → (c : Call) → turn p x ≡ Some c → Fit p (after p c x)
 stays_fit p bounded x f c e = (turn_goes p bounded x f c e).fit
 
 -- the start is fit, of packets as a capture has them, on a receiver that can be configured
-pub start_fits : (p : Batches) → Bounded p → (bs : List Bearer) (ps : List Captured) →
-    call p (Configure standard) (idle bs) ≡ (Ok Configured, running standard (fresh bs)) →
+pub start_fits : (p : Batches) → IsBounded p → (bs : List Bearer) (ps : List Captured) →
+    call p (Configure standard_numbers) (put_up bs) ≡ (Ok Configured, configured standard (fresh bs)) →
     AllByRecursion (Readable (length bs) (first_stamp ps)) ps → length ps ≤ 1024 → Fit p (start bs ps)
 start_fits p bounded bs ps ready r l = (
   refl,
   record {
-    kept = subst (KeptState p) (ap (λ (d : Result Answer Refusal × State). d.1) ready) (keeps p bounded (Configure standard) (idle bs) tt);
+    kept = subst (KeptState p) (ap (λ (d : Result Answer Refusal × State). d.1) ready) (keeps p bounded (Configure standard_numbers) (put_up bs) tt);
     elapsed = omega arith;
     closed = omega arith;
     out = refl;

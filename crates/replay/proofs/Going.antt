@@ -6,10 +6,11 @@ use Rattle.capture.specs.declared.packets.Captured.{Captured}
 use Rattle.machine.specs.declared.answers.Answer.TheVariants.{Configured}
 use Rattle.machine.specs.declared.answers.Period.{Period}
 use Rattle.machine.specs.declared.calls.Call.TheVariants.{Configure}
-use Rattle.machine.specs.Examples.{standard}
-use Rattle.machine.specs.Laws.{Bounded}
+use Rattle.machine.specs.Standard.{standard, standard_numbers}
 use Rattle.machine.specs.Machine.{call, fresh}
-use Rattle.machine.specs.State.{idle, running, Batches}
+use Rattle.machine.specs.State.{configured}
+use Rattle.machine.specs.State.{put_up}
+use Rattle.policy.specs.Batches.{Batches, IsBounded}
 use Rattle.receiver.specs.Receivers.{batches}
 use Rattle.receiver.proofs.Called.{bounded}
 use Rattle.ring.specs.Queue.{held}
@@ -30,17 +31,17 @@ module _ {P : Type 0} (quotas : P → ℕ → ℕ → ℕ) (greatest : ℕ) (bs 
   -- turns have led to v, with fs and ds written down, under the policy q
   pub record Going (turns : ℕ) (v : Playing P) (fs : List (Option Fallen)) (ds : List Period) : Type 0 where
     pub policy : v.policy ≡ q
-    pub bounds : Bounded (policy_of quotas greatest v)
+    pub bounds : IsBounded (policy_of quotas greatest v)
     pub played : Played (policy_of quotas greatest v) bs ps turns v.stage fs ds
 
 module _ {P : Type 0} {quotas : P → ℕ → ℕ → ℕ} {greatest : ℕ} {bs : List Bearer} {ps : List Captured} {q : P} where
   pub starts_going : {v : Playing P} {fs : List (Option Fallen)} {ds : List Period} → ((b w : ℕ) → (1 ≤ quotas q b w) × (quotas q b w ≤ greatest)) →
-      (1 ≤ greatest) × (greatest ≤ 64) → call (batches (quotas q) greatest) (Configure standard) (idle bs) ≡ (Ok Configured, running standard (fresh bs)) →
+      (1 ≤ greatest) × (greatest ≤ 64) → call (batches (quotas q) greatest) (Configure standard_numbers) (put_up bs) ≡ (Ok Configured, configured standard (fresh bs)) →
       AllByRecursion (Readable (length bs) (first_stamp ps)) ps → length ps ≤ 1024 →
       v ≡ record { policy = q; stage = start bs ps } → fs ≡ replicate (length ps) None → ds ≡ [] → Going quotas greatest bs ps q 0 v fs ds
-  starts_going each range configured readable few e f d =
+  starts_going each range ready readable few e f d =
       let b = bounded each range in
-      rw (e, f, d) (record { policy = refl; bounds = b; played = begins (batches (quotas q) greatest) bs ps b configured readable few })
+      rw (e, f, d) (record { policy = refl; bounds = b; played = begins (batches (quotas q) greatest) bs ps b ready readable few })
 
   module _ {turns : ℕ} {v : Playing P} {fs : List (Option Fallen)} {ds : List Period} (g : Going quotas greatest bs ps q turns v fs ds) where
     abbrev p : Batches

@@ -4,14 +4,13 @@ use Rattle.std.specs.List.{list_any, sum_by}
 use Rattle.std.proofs.lemmas.Bool.Decides.{eqb_tells, leb_tells}
 use Rattle.std.proofs.lemmas.Grind.{common_steps}
 use Rattle.std.proofs.lemmas.List.Sums.{sum_by-cons}
-use Rattle.board.specs.Bearers.{Bearer, any_waiting}
+use Rattle.board.specs.Bearers.{Bearer, any_in, any_in}
 use Rattle.machine.specs.Laws.{accounted}
-use Rattle.machine.specs.Machine.{any_left}
 use Rattle.machine.specs.State.{Core}
 use Rattle.replay.specs.Stages.{holds_none}
 
 -- some packet waits in a bearer if any do in all together
-some_wait : (bs : List Bearer) → list_any (λ (v : Bearer). any_waiting v.waiting) bs ≡ ltb 0 (sum_by (λ (v : Bearer). length v.waiting) bs)
+some_wait : (bs : List Bearer) → list_any (λ (v : Bearer). any_in v.waiting) bs ≡ ltb 0 (sum_by (λ (v : Bearer). length v.waiting) bs)
 some_wait [] = refl
 some_wait (v ∷ bs) = grind (arith, common_steps, some_wait bs, sum_by-cons, leb_tells)
 
@@ -24,4 +23,4 @@ pub all_gone : (x : Core) → accounted x.bearers x.queue x.out x.counts ≡ x.c
 all_gone x e =
     let w : ℕ = sum_by (λ (v : Bearer). length v.waiting) x.bearers in
     none_left w (length x.queue) (length x.out) _ x.counts.numbered (omega (arith, e))
-    ∙ ap (λ b. not b && (not (any_left x.queue) && not (any_left x.out))) (sym (some_wait x.bearers))
+    ∙ ap (λ b. not b && (not (any_in x.queue) && not (any_in x.out))) (sym (some_wait x.bearers))

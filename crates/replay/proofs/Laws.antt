@@ -2,8 +2,8 @@
 use Rattle.std.proofs.Common.{List}
 use Rattle.board.specs.Bearers.{Bearer}
 use Rattle.machine.specs.declared.calls.Call.{Call}
-use Rattle.machine.specs.Laws.{Bounded}
-use Rattle.machine.specs.State.{idle, Batches}
+use Rattle.machine.specs.State.{put_up}
+use Rattle.policy.specs.Batches.{Batches, IsBounded}
 use Rattle.machine.specs.Trace.{trace}
 use Rattle.machine.proofs.Agreement.{ledger_agrees, true_answers}
 use Rattle.machine.proofs.Batches.{bounded_batches}
@@ -12,11 +12,11 @@ use Rattle.machine.proofs.Places.{one_place}
 use Rattle.machine.proofs.Room.{bounded_memory}
 use Rattle.machine.proofs.Runs.{refusals_leave}
 use Rattle.machine.proofs.Share.{share, true_records}
-use Rattle.machine.proofs.Tidy.{never_deaf, one_way, quiet}
+use Rattle.machine.proofs.Tidy.{no_lost_wakeup, one_way, quiet}
 use Rattle.machine.proofs.Turns.{equal_turns}
 use Rattle.replay.specs.Lawful.{Lawful}
 
-pub lawful : (p : Batches) → Bounded p → (bs : List Bearer) (cs : List Call) → Lawful p bs (trace p (idle bs) cs)
+pub lawful : (p : Batches) → IsBounded p → (bs : List Bearer) (cs : List Call) → Lawful p bs (trace p (put_up bs) cs)
 lawful p bounded bs cs = record {
   refusals_leave = refusals_leave p bounded bs cs;
   share = share p bounded bs cs;
@@ -25,7 +25,7 @@ lawful p bounded bs cs = record {
   true_answers = true_answers p bounded bs cs;
   one_place = one_place p bounded bs cs;
   arrival_order = arrival_order p bounded bs cs;
-  never_deaf = never_deaf p bounded bs cs;
+  no_lost_wakeup = no_lost_wakeup p bounded bs cs;
   one_way = one_way p bounded bs cs;
   equal_turns = equal_turns p bounded bs cs;
   bounded_batches = bounded_batches p bounded bs cs;

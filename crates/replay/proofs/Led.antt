@@ -1,7 +1,7 @@
 -- Turns that lead from one stage to another: where their trace ends, one more turn, the stop, and what each turn finds.
 use Rattle.std.proofs.Common.{◌≡◌, List, [], ◌∷◌, ◌++◌, Some, None, refl, sym, ap, ◌∙◌, subst}
 use Rattle.machine.specs.declared.calls.Call.{Call}
-use Rattle.machine.specs.State.{Batches}
+use Rattle.policy.specs.Batches.{Batches}
 use Rattle.machine.specs.Trace.{Entry, entry, trace, end_of}
 use Rattle.replay.specs.Stages.{Stage, turn, after, Leads}
 

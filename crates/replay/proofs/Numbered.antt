@@ -11,10 +11,11 @@ use Rattle.machine.specs.declared.answers.Arrival.{Arrival}
 use Rattle.machine.specs.declared.calls.Call.{Call}
 use Rattle.machine.specs.declared.calls.Call.TheVariants.{Configure, Arrive}
 use Rattle.machine.specs.declared.refusals.Refusal.{Refusal}
-use Rattle.machine.specs.Examples.{standard}
-use Rattle.machine.specs.Laws.{Bounded}
+use Rattle.machine.specs.Standard.{standard, standard_numbers}
 use Rattle.machine.specs.Machine.{call, fresh}
-use Rattle.machine.specs.State.{State, idle, running, Batches}
+use Rattle.machine.specs.State.{State, configured}
+use Rattle.machine.specs.State.{put_up}
+use Rattle.policy.specs.Batches.{Batches, IsBounded}
 use Rattle.machine.specs.Trace.{Entry, trace}
 use Rattle.machine.proofs.Moved.{happened}
 use Rattle.machine.proofs.OneCall.{numbered_by, arrives}
@@ -35,7 +36,7 @@ first_left (suc k) [] = refl
 first_left (suc k) (x ∷ xs) = first_left k xs
 
 -- packets arrive in the capture's order: those that have no number are still to arrive
-module _ (p : Batches) (bounded : Bounded p) (ps : List Captured) where
+module _ (p : Batches) (bounded : IsBounded p) (ps : List Captured) where
   abbrev InOrder : Stage → Type 0
   InOrder x = Fit p x × (x.coming ≡ drop (numbered_in x.receiver) ps)
 
@@ -50,12 +51,12 @@ module _ (p : Batches) (bounded : Bounded p) (ps : List Captured) where
   turned_numbered : (e : Entry) (a : Arrival) → ByTurn p InOrder order_kept e → e.answered ≡ Ok (Arrived a) → option_map arrival (slice_get ps a.number) ≡ Some e.asked
   turned_numbered e a t h =
       let x : Stage = t.stage in
-      let r = arrives (happened p e.asked (running standard (core x.receiver))
+      let r = arrives (happened p e.asked (configured standard (core x.receiver))
       (here p x t.held.0 (λ u. (call p e.asked u).0 ≡ Ok (Arrived a)) (ap (λ (d : Entry). d.answered) (sym t.is_entry) ∙ h)) refl) in
       let place : next x ≡ slice_get ps a.number = ap (λ qs. slice_get qs 0) t.held.1 ∙ first_left (numbered_in x.receiver) ps ∙ ap (slice_get ps) (sym r.number) in
       ap (option_map arrival) (sym place) ∙ subst (λ c. Ruled x (Some c)) r.asked (ruled x p e.asked t.is_turn) ∙ ap Some (sym r.asked)
 
-  module _ (bs : List Bearer) (starts : Fit p (start bs ps)) (ready : call p (Configure standard) (idle bs) ≡ (Ok Configured, running standard (fresh bs)))
+  module _ (bs : List Bearer) (starts : Fit p (start bs ps)) (ready : call p (Configure standard_numbers) (put_up bs) ≡ (Ok Configured, configured standard (fresh bs)))
       (cs : List Call) (y : Stage) (l : Leads p (start bs ps) cs y) where
     pub in_order : (before rest : List Entry) (e : Entry) (a : Arrival) → entries p bs cs ≡ before ++ e ∷ rest → e.answered ≡ Ok (Arrived a) →
         option_map arrival (slice_get ps a.number) ≡ Some e.asked

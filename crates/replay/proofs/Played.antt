@@ -13,10 +13,12 @@ use Rattle.machine.specs.declared.answers.Period.{Period}
 use Rattle.machine.specs.declared.answers.Report.{Report}
 use Rattle.machine.specs.declared.calls.Call.{Call}
 use Rattle.machine.specs.declared.calls.Call.TheVariants.{Configure}
-use Rattle.machine.specs.Examples.{standard}
-use Rattle.machine.specs.Laws.{Bounded, closed_in}
+use Rattle.machine.specs.Standard.{standard, standard_numbers}
+use Rattle.machine.specs.Laws.{closed_in}
 use Rattle.machine.specs.Machine.{call, fresh}
-use Rattle.machine.specs.State.{State, idle, running, Batches}
+use Rattle.machine.specs.State.{State, configured}
+use Rattle.machine.specs.State.{put_up}
+use Rattle.policy.specs.Batches.{Batches, IsBounded}
 use Rattle.machine.specs.Trace.{end_of}
 use Rattle.replay.specs.declared.fates.Fallen.{Fallen}
 use Rattle.replay.specs.Accounts.{noted_record}
@@ -52,29 +54,29 @@ module _ (p : Batches) (bs : List Bearer) (ps : List Captured) where
   pub record Played (turns : ℕ) (x : Stage) (fs : List (Option Fallen)) (ds : List Period) : Type 0 where
     pub calls : List Call
     pub leads : Leads p (start bs ps) calls x
-    pub ends : end_of (idle bs) (entries p bs calls) ≡ x.receiver
+    pub ends : end_of (put_up bs) (entries p bs calls) ≡ x.receiver
     pub fit : Fit p x
     pub turns_are : turns ≡ length calls
     pub fates_are : fs ≡ fates (length ps) (entries p bs calls)
     pub records_are : ds ≡ records (entries p bs calls) (closed x)
     pub falling : turns + fall x ≤ 320321024
 
-  -- the start, of packets as a capture has them, on a receiver that can be configured
-  pub begins : Bounded p → call p (Configure standard) (idle bs) ≡ (Ok Configured, running standard (fresh bs)) →
+  -- the start, of packets as a capture has them, on a receiver that can be ready
+  pub begins : IsBounded p → call p (Configure standard_numbers) (put_up bs) ≡ (Ok Configured, configured standard (fresh bs)) →
       AllByRecursion (Readable (length bs) (first_stamp ps)) ps → length ps ≤ 1024 → Played 0 (start bs ps) (replicate (length ps) None) []
-  begins bounded configured readable few = record {
+  begins bounded ready readable few = record {
     calls = [];
     leads = refl;
-    ends = ap (λ (d : Result Answer Refusal × State). d.1) configured;
-    fit = start_fits p bounded bs ps configured readable few;
+    ends = ap (λ (d : Result Answer Refusal × State). d.1) ready;
+    fit = start_fits p bounded bs ps ready readable few;
     turns_are = refl;
-    fates_are = sym (fates_start p bs configured (length ps));
+    fates_are = sym (fates_start p bs ready (length ps));
     records_are = refl;
     falling = omega (arith, start_falls bs ps few);
   }
 
   -- one more turn
-  module _ (bounded : Bounded p) {turns : ℕ} {x : Stage} {fs : List (Option Fallen)} {ds : List Period} (d : Played turns x fs ds) (c : Call) (made : turn p x ≡ Some c) where
+  module _ (bounded : IsBounded p) {turns : ℕ} {x : Stage} {fs : List (Option Fallen)} {ds : List Period} (d : Played turns x fs ds) (c : Call) (made : turn p x ≡ Some c) where
     abbrev y : Stage
     y = after p c x
 

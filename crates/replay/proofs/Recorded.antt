@@ -9,10 +9,12 @@ use Rattle.machine.specs.declared.answers.Period.{Period}
 use Rattle.machine.specs.declared.calls.Call.{Call}
 use Rattle.machine.specs.declared.calls.Call.TheVariants.{Configure, Tell}
 use Rattle.machine.specs.declared.refusals.Refusal.{Refusal}
-use Rattle.machine.specs.Examples.{standard}
-use Rattle.machine.specs.Laws.{Bounded, closed_in, offered_by, offered_in, LastRecorded}
+use Rattle.machine.specs.Standard.{standard, standard_numbers}
+use Rattle.machine.specs.Laws.{closed_in, offered_by, offered_in, LastRecorded}
 use Rattle.machine.specs.Machine.{call, fresh}
-use Rattle.machine.specs.State.{Core, State, idle, running, Batches}
+use Rattle.machine.specs.State.{Core, State, configured}
+use Rattle.machine.specs.State.{put_up}
+use Rattle.policy.specs.Batches.{Batches, IsBounded}
 use Rattle.machine.specs.Trace.{Entry, entry, trace, end_of}
 use Rattle.machine.proofs.Moved.{happened}
 use Rattle.machine.proofs.OneCall.{Passes, passes, tell_done}
@@ -74,37 +76,37 @@ last_record es k closed (Some d) r e =
 -- the calls of a replay
 module _ (p : Batches) (bs : List Bearer) where
   -- after cs the receiver is t
-  module _ (cs : List Call) (t : State) (e : end_of (idle bs) (entries p bs cs) ≡ t) (c : Call) where
+  module _ (cs : List Call) (t : State) (e : end_of (put_up bs) (entries p bs cs) ≡ t) (c : Call) where
     entries_push : entries p bs (cs ++ c ∷ []) ≡ entries p bs cs ++ entry p t c ∷ []
-    entries_push = trace_push p (idle bs) (Configure standard ∷ cs) c ∙ ap (λ u. entries p bs cs ++ entry p u c ∷ []) e
+    entries_push = trace_push p (put_up bs) (Configure standard_numbers ∷ cs) c ∙ ap (λ u. entries p bs cs ++ entry p u c ∷ []) e
 
-    pub end_grow : end_of (idle bs) (entries p bs (cs ++ c ∷ [])) ≡ (call p c t).1
-    end_grow = ap (end_of (idle bs)) entries_push ∙ end_push (idle bs) (entries p bs cs) (entry p t c)
+    pub end_grow : end_of (put_up bs) (entries p bs (cs ++ c ∷ [])) ≡ (call p c t).1
+    end_grow = ap (end_of (put_up bs)) entries_push ∙ end_push (put_up bs) (entries p bs cs) (entry p t c)
 
     pub fates_grow : (n : ℕ) → fates n (entries p bs (cs ++ c ∷ [])) ≡ noted (decided c (call p c t).0) (closed_in (call p c t).1) (fates n (entries p bs cs))
     fates_grow n = ap (fates n) entries_push ∙ fates_push n (entries p bs cs) (entry p t c)
 
   -- configure decides nothing
-  pub fates_start : call p (Configure standard) (idle bs) ≡ (Ok Configured, running standard (fresh bs)) → (n : ℕ) → fates n (entries p bs []) ≡ replicate n None
+  pub fates_start : call p (Configure standard_numbers) (put_up bs) ≡ (Ok Configured, configured standard (fresh bs)) → (n : ℕ) → fates n (entries p bs []) ≡ replicate n None
   unfolding fates
   fates_start ok n =
-      let answer : (call p (Configure standard) (idle bs)).0 ≡ Ok Configured = ap (λ (w : Result Answer Refusal × State). w.0) ok in
-      ap (λ r. noted (decided (Configure standard) r) (closed_in (call p (Configure standard) (idle bs)).1) (replicate n None)) answer
+      let answer : (call p (Configure standard_numbers) (put_up bs)).0 ≡ Ok Configured = ap (λ (w : Result Answer Refusal × State). w.0) ok in
+      ap (λ r. noted (decided (Configure standard_numbers) r) (closed_in (call p (Configure standard_numbers) (put_up bs)).1) (replicate n None)) answer
 
-  module _ (bounded : Bounded p) where
+  module _ (bounded : IsBounded p) where
     -- what the receiver has of the last closed period: what tell would answer
-    last_recorded : (cs : List Call) (x : Core) → end_of (idle bs) (entries p bs cs) ≡ running standard x →
+    last_recorded : (cs : List Call) (x : Core) → end_of (put_up bs) (entries p bs cs) ≡ configured standard x →
         LastRecorded standard.period (λ k. offered_in k (entries p bs cs)) x.clock.closed x.clock.last
     last_recorded cs x e =
-        (true_records p bounded bs (Configure standard ∷ (cs ++ Tell ∷ [])) (entries p bs cs) [] (entry p (running standard x) Tell) _
-        (entries_push cs (running standard x) e Tell) (tell_done p standard x)).1
+        (true_records p bounded bs (Configure standard_numbers ∷ (cs ++ Tell ∷ [])) (entries p bs cs) [] (entry p (configured standard x) Tell) _
+        (entries_push cs (configured standard x) e Tell) (tell_done p standard x)).1
 
     -- one more call
-    pub grows : (cs : List Call) (c : Call) (x y : Core) → end_of (idle bs) (entries p bs cs) ≡ running standard x →
-        (call p c (running standard x)).1 ≡ running standard y → (rs : List Period) → rs ≡ records (entries p bs cs) x.clock.closed →
+    pub grows : (cs : List Call) (c : Call) (x y : Core) → end_of (put_up bs) (entries p bs cs) ≡ configured standard x →
+        (call p c (configured standard x)).1 ≡ configured standard y → (rs : List Period) → rs ≡ records (entries p bs cs) x.clock.closed →
         Grown rs (entries p bs (cs ++ c ∷ [])) x y
     grows cs c x y e f rs h =
-        let t : State = running standard x in
+        let t : State = configured standard x in
         let k : ℕ = x.clock.closed in
         let es : List Entry = entries p bs (cs ++ c ∷ []) in
         let before : rs ≡ records es k =

@@ -13,12 +13,14 @@ use Rattle.machine.specs.declared.answers.Progress.TheVariants.{Begun, Empty, Ta
 use Rattle.machine.specs.declared.calls.Call.{Call}
 use Rattle.machine.specs.declared.calls.Call.TheVariants.{Configure, Step, Discard}
 use Rattle.machine.specs.declared.refusals.Refusal.{Refusal}
-use Rattle.machine.specs.Examples.{standard}
+use Rattle.machine.specs.Standard.{standard, standard_numbers}
 use Rattle.machine.specs.Machine.{call, fresh}
-use Rattle.machine.specs.State.{State, idle, running, Batches}
+use Rattle.machine.specs.State.{State, configured}
+use Rattle.machine.specs.State.{put_up}
+use Rattle.policy.specs.Batches.{Batches, IsBounded}
 use Rattle.machine.specs.Trace.{Entry, trace, end_of}
 use Rattle.machine.specs.Ledger.{Ledger, Columns, nothing, told, accepted, stepped, progress_in, depths_of, ledger}
-use Rattle.machine.specs.Laws.{Bounded, times_in_all, places}
+use Rattle.machine.specs.Laws.{times_in_all, places}
 use Rattle.machine.specs.Numbers.{holds, times}
 use Rattle.machine.proofs.Agreement.{TallyState, Agreeing, starts_agreeing, keeps_agreeing}
 use Rattle.machine.proofs.Basics.{times-append}
@@ -103,8 +105,8 @@ undecided_on_the_way n k one none d =
 
 -- a receiver that agrees with the ledger has given as many numbers
 numbered_next : (depths : List ℕ) (t : State) (l : Ledger) → TallyState depths t l → numbered_in t ≡ l.next
-numbered_next depths (idle bs) l a = ap (λ (m : Ledger). m.next) (sym a.0)
-numbered_next depths (running s x) l a = ap (λ (n : Counts). n.numbered) a.counts
+numbered_next depths (put_up bs) l a = ap (λ (m : Ledger). m.next) (sym a.0)
+numbered_next depths (configured s x) l a = ap (λ (n : Counts). n.numbered) a.counts
 
 -- what is noted in the end stands in the ledger
 noted_stands : (i numbered closed : ℕ) (l : Ledger) → places i l.columns ≡ cond (nat_lt i l.next) 1 0 → l.columns.discarded ≡ [] → numbered ≡ l.next →
@@ -121,12 +123,12 @@ noted_stands i numbered closed l one d e (Some f) t = fell f.fate t
     fell QueueFull h = h
     fell _ h = cc h
 
-module _ (p : Batches) (bs : List Bearer) (ready : call p (Configure standard) (idle bs) ≡ (Ok Configured, running standard (fresh bs))) where
-  set_up : (call p (Configure standard) (idle bs)).1 ≡ running standard (fresh bs)
+module _ (p : Batches) (bs : List Bearer) (ready : call p (Configure standard_numbers) (put_up bs) ≡ (Ok Configured, configured standard (fresh bs))) where
+  set_up : (call p (Configure standard_numbers) (put_up bs)).1 ≡ configured standard (fresh bs)
   set_up = ap (λ (w : Result Answer Refusal × State). w.1) ready
 
   -- the trace of a replay ends with its last receiver
-  entries_end : (ps : List Captured) (cs : List Call) (y : Stage) → Leads p (start bs ps) cs y → end_of (idle bs) (entries p bs cs) ≡ y.receiver
+  entries_end : (ps : List Captured) (cs : List Call) (y : Stage) → Leads p (start bs ps) cs y → end_of (put_up bs) (entries p bs cs) ≡ y.receiver
   entries_end ps cs y l = subst (λ t. end_of t (trace p t cs) ≡ y.receiver) (sym set_up) (leads_end p (start bs ps) cs y l)
 
   -- and nothing is discarded
@@ -144,15 +146,15 @@ module _ (p : Batches) (bs : List Bearer) (ready : call p (Configure standard) (
   none_discarded : (ps : List Captured) (cs : List Call) (y : Stage) → Leads p (start bs ps) cs y → (ledger bs (entries p bs cs)).columns.discarded ≡ []
   unfolding ledger
   none_discarded ps cs y k =
-      let r : Result Answer Refusal = (call p (Configure standard) (idle bs)).0 in
-      let l : Ledger = told (depths_of bs) (Configure standard) r (nothing (length bs)) in
+      let r : Result Answer Refusal = (call p (Configure standard_numbers) (put_up bs)).0 in
+      let l : Ledger = told (depths_of bs) (Configure standard_numbers) r (nothing (length bs)) in
       subst (λ t. (told_on l (trace p t cs)).columns.discarded ≡ []) (sym set_up)
-      (turns_discard (start bs ps) cs y k l (told_discards (depths_of bs) (Configure standard) r (nothing (length bs)) (λ n e. cc e)))
+      (turns_discard (start bs ps) cs y k l (told_discards (depths_of bs) (Configure standard_numbers) r (nothing (length bs)) (λ n e. cc e)))
 
-  module _ (bounded : Bounded p) (ps : List Captured) (r : Run p bs ps) where
+  module _ (bounded : IsBounded p) (ps : List Captured) (r : Run p bs ps) where
     -- all calls, their trace and its ledger
     abbrev calls : List Call
-    calls = Configure standard ∷ r.calls
+    calls = Configure standard_numbers ∷ r.calls
 
     abbrev es : List Entry
     es = entries p bs r.calls
@@ -168,7 +170,7 @@ module _ (p : Batches) (bs : List Bearer) (ready : call p (Configure standard) (
     given_next =
         numbered_next (depths_of bs) r.stop.receiver last
         (subst (λ t. TallyState (depths_of bs) t last) (entries_end ps r.calls r.stop r.leads)
-        (at_end p (Agreeing p bs) (keeps_agreeing p bs) (idle bs) (starts_agreeing p bs) calls))
+        (at_end p (Agreeing p bs) (keeps_agreeing p bs) (put_up bs) (starts_agreeing p bs) calls))
 
     rows_stand : (i : ℕ) (f : Fallen) → slice_get (outcomes p bs ps r) i ≡ Some f → Stands f.fate i last
     rows_stand i f h =

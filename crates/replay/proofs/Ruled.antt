@@ -6,7 +6,7 @@ use Rattle.std.specs.Option.{option_map}
 use Rattle.capture.specs.declared.packets.Captured.{Captured}
 use Rattle.machine.specs.declared.calls.Call.{Call}
 use Rattle.machine.specs.declared.calls.Call.TheVariants.{Configure, Arrive, Work, Finish, Discard, Tell}
-use Rattle.machine.specs.State.{Batches}
+use Rattle.policy.specs.Batches.{Batches}
 use Rattle.replay.specs.Stages.{Task, Stage, Rule, next, arrival, first_of, rules, turn}
 
 abbrev pub Ruled : Stage → Option Call → Type 0

@@ -1,12 +1,14 @@
--- The standard receiver: it can be configured, and its replay gives the tables.
+-- The standard receiver: it can be standard_ready, and its replay gives the tables.
 use Rattle.std.proofs.Common.{◌≡◌, List, length, Ok, refl, ap, ◌∙◌, subst}
 use Rattle.board.specs.Bearers.{Bearer}
 use Rattle.capture.specs.declared.packets.Captured.{Captured}
 use Rattle.machine.specs.declared.answers.Answer.TheVariants.{Configured}
 use Rattle.machine.specs.declared.calls.Call.TheVariants.{Configure}
-use Rattle.machine.specs.Examples.{four, standard, standard_board}
+use Rattle.machine.specs.Standard.{standard_board, four, standard, standard_numbers}
 use Rattle.machine.specs.Machine.{call, fresh}
-use Rattle.machine.specs.State.{idle, running, Batches}
+use Rattle.machine.specs.State.{configured}
+use Rattle.machine.specs.State.{put_up}
+use Rattle.policy.specs.Batches.{Batches}
 use Rattle.ring.specs.Queue.{held}
 use Rattle.replay.specs.declared.answers.Tables.{Tables}
 use Rattle.replay.specs.declared.fates.Fallen.{Fallen}
@@ -19,13 +21,13 @@ use Rattle.replay.specs.Tables.{packets_table, periods_table}
 use Rattle.replay.proofs.Decided.{length-fates}
 use Rattle.replay.proofs.Rows.{length-all}
 
-pub standard_configured : call four (Configure standard) (idle standard_board) ≡ (Ok Configured, running standard (fresh standard_board))
+pub standard_configured : call four (Configure standard_numbers) (put_up standard_board) ≡ (Ok Configured, configured standard (fresh standard_board))
 unfolding call
 standard_configured = refl
 
-pub configured : {p : Batches} {bs : List Bearer} → p ≡ four → bs ≡ standard_board →
-    call p (Configure standard) (idle bs) ≡ (Ok Configured, running standard (fresh bs))
-configured e f = rw (e, f) standard_configured
+pub standard_ready : {p : Batches} {bs : List Bearer} → p ≡ four → bs ≡ standard_board →
+    call p (Configure standard_numbers) (put_up bs) ≡ (Ok Configured, configured standard (fresh bs))
+standard_ready e f = rw (e, f) standard_configured
 
 module _ {p : Batches} {bs : List Bearer} {ps : List Captured} {o : Outcome} (came : Comes p bs ps o) {fs : List Fallen}
     (all : fs ≡ all_in_the_end o.report.counts.numbered o.report.closed 0 o.fates.items) where

@@ -5,11 +5,12 @@ use Rattle.machine.specs.declared.answers.Report.{Report}
 use Rattle.machine.specs.declared.calls.Call.TheVariants.{Tell}
 use Rattle.machine.specs.declared.calls.RawSettings.{RawSettings}
 use Rattle.machine.specs.Machine.{call}
-use Rattle.machine.specs.State.{Core, State, running, Batches}
+use Rattle.machine.specs.State.{Core, State, configured}
+use Rattle.policy.specs.Batches.{Batches}
 use Rattle.machine.proofs.OneCall.{tell_done}
 use Rattle.replay.specs.Turns.{report}
 
-pub tells : (p : Batches) (s : RawSettings) (x : Core) (t : State) (r : Report) → t ≡ running s x → Ok (Told r) ≡ (call p Tell t).0 → r ≡ report x
+pub tells : (p : Batches) (s : RawSettings) (x : Core) (t : State) (r : Report) → t ≡ configured s x → Ok (Told r) ≡ (call p Tell t).0 → r ≡ report x
 tells p s x t r e h =
     let k : Ok (Told r) ≡ Ok (Told (report x)) = h ∙ ap (λ (u : State). (call p Tell u).0) e ∙ tell_done p s x in
     cc k

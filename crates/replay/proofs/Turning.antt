@@ -4,8 +4,9 @@ use Rattle.std.proofs.lemmas.Bool.{le-leb, lt-leb}
 use Rattle.std.specs.Option.{option_map, option_map_or}
 use Rattle.machine.specs.declared.calls.Call.{Call}
 use Rattle.machine.specs.declared.calls.Call.TheVariants.{Step, Work, Fetch, Finish}
-use Rattle.machine.specs.Machine.{any_left, call}
-use Rattle.machine.specs.State.{Batches}
+use Rattle.machine.specs.Machine.{call}
+use Rattle.board.specs.Bearers.{any_in}
+use Rattle.policy.specs.Batches.{Batches}
 use Rattle.replay.specs.declared.fates.Decision.{Decision}
 use Rattle.replay.specs.declared.stages.Turn.{Turn}
 use Rattle.replay.specs.declared.stages.Turn.TheVariants.{Made, Stop}
@@ -36,15 +37,15 @@ module _ (p : Batches) (x : Stage) where
     unfolding turn
     works a = rw (going, early, none_through, refused, a) refl
 
-    fetches : is_some x.task ≡ false → any_left (core x.receiver).queue ≡ true → turn p x ≡ Some Fetch
+    fetches : is_some x.task ≡ false → any_in (core x.receiver).queue ≡ true → turn p x ≡ Some Fetch
     unfolding turn
     fetches a b = rw (going, early, none_through, refused, a, b) refl
 
-    over : is_some x.task ≡ false → any_left (core x.receiver).queue ≡ false → is_over x ≡ true → turn p x ≡ None
+    over : is_some x.task ≡ false → any_in (core x.receiver).queue ≡ false → is_over x ≡ true → turn p x ≡ None
     unfolding turn
     over a b c = rw (going, early, none_through, refused, a, c, b) refl
 
-    waits : is_some x.task ≡ false → any_left (core x.receiver).queue ≡ false → is_over x ≡ false → turn p x ≡ Some (Work (span x))
+    waits : is_some x.task ≡ false → any_in (core x.receiver).queue ≡ false → is_over x ≡ false → turn p x ≡ Some (Work (span x))
     unfolding turn
     waits a b c = rw (going, early, none_through, refused, a, c, b) refl
 
@@ -96,28 +97,28 @@ module _ {P : Type 0} (quotas : P → ℕ → ℕ → ℕ) (greatest : ℕ) (x :
 
           -- the application has no packet, so that work on one leaves w as it was
           module _ (idle : is_some x.stage.task ≡ false) {w : Playing P} (unworked : w ≡ x) where
-            pub fetched : (y : Playing P) → any_left (core w.stage.receiver).queue ≡ true → Makes quotas greatest Fetch w None y → Comes (Made None) y
+            pub fetched : (y : Playing P) → any_in (core w.stage.receiver).queue ≡ true → Makes quotas greatest Fetch w None y → Comes (Made None) y
             fetched y h m = (
               Fetch,
-              fetches p x.stage going early none_through refused idle (subst (λ (v : Playing P). any_left (core v.stage.receiver).queue ≡ true) unworked h),
+              fetches p x.stage going early none_through refused put_up (subst (λ (v : Playing P). any_in (core v.stage.receiver).queue ≡ true) unworked h),
               subst (λ (v : Playing P). Makes quotas greatest Fetch v None y) unworked m,
             )
 
             -- nor is there one to fetch, so that a fetch leaves v as it was
-            module _ (empty : any_left (core w.stage.receiver).queue ≡ false) {v : Playing P} (unfetched : v ≡ w) where
+            module _ (empty : any_in (core w.stage.receiver).queue ≡ false) {v : Playing P} (unfetched : v ≡ w) where
               same : v ≡ x
               same = unfetched ∙ unworked
 
-              none_queued : any_left (core x.stage.receiver).queue ≡ false
-              none_queued = subst (λ (v : Playing P). any_left (core v.stage.receiver).queue ≡ false) unworked empty
+              none_queued : any_in (core x.stage.receiver).queue ≡ false
+              none_queued = subst (λ (v : Playing P). any_in (core v.stage.receiver).queue ≡ false) unworked empty
 
               pub stopped_over : is_over v.stage ≡ true → Comes Stop v
-              stopped_over h = (over p x.stage going early none_through refused idle none_queued (subst (λ (u : Playing P). is_over u.stage ≡ true) same h), same)
+              stopped_over h = (over p x.stage going early none_through refused put_up none_queued (subst (λ (u : Playing P). is_over u.stage ≡ true) same h), same)
 
               pub waited : (y : Playing P) → is_over v.stage ≡ false → Makes quotas greatest (Work (span v.stage)) v None y → Comes (Made None) y
               waited y h m = (
                 Work (span x.stage),
-                waits p x.stage going early none_through refused idle none_queued (subst (λ (u : Playing P). is_over u.stage ≡ false) same h),
+                waits p x.stage going early none_through refused put_up none_queued (subst (λ (u : Playing P). is_over u.stage ≡ false) same h),
                 subst (λ (u : Playing P). Makes quotas greatest (Work (span u.stage)) u None y) same m,
               )
 

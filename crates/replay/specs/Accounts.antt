@@ -5,7 +5,7 @@ use Rattle.board.specs.Bearers.{Bearer}
 use Rattle.capture.specs.declared.packets.Captured.{Captured}
 use Rattle.machine.specs.declared.answers.Period.{Period}
 use Rattle.machine.specs.declared.answers.Report.{Report}
-use Rattle.machine.specs.State.{Batches}
+use Rattle.policy.specs.Batches.{Batches}
 use Rattle.ring.specs.Queue.{held}
 use Rattle.replay.specs.declared.runs.Outcome.{Outcome}
 use Rattle.replay.specs.Fates.{fates}

@@ -4,7 +4,7 @@ use Rattle.capture.specs.declared.packets.Captured.{Captured}
 use Rattle.capture.specs.declared.refusals.ReadError.{ReadError}
 use Rattle.capture.specs.declared.refusals.ReadError.TheVariants as reading
 use Rattle.capture.specs.Meaning.{Meaning}
-use Rattle.machine.specs.Examples.{four, standard_board}
+use Rattle.machine.specs.Standard.{standard_board, four}
 use Rattle.table.specs.Memory.{fits, left, refusal}
 use Rattle.table.specs.declared.memory.TooSmall.{TooSmall}
 use Rattle.replay.specs.declared.answers.FateCounts.{FateCounts}

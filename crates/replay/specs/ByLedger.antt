@@ -8,7 +8,7 @@ use Rattle.machine.specs.declared.answers.Answer.TheVariants.{Arrived}
 use Rattle.machine.specs.declared.answers.Arrival.{Arrival}
 use Rattle.machine.specs.Ledger.{Ledger, Columns, ledger}
 use Rattle.machine.specs.Numbers.{holds}
-use Rattle.machine.specs.State.{Batches}
+use Rattle.policy.specs.Batches.{Batches}
 use Rattle.machine.specs.Trace.{Entry}
 use Rattle.replay.specs.declared.fates.Fallen.{Fallen}
 use Rattle.replay.specs.declared.fates.Fate.{Fate}

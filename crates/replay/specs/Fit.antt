@@ -3,8 +3,9 @@ use Rattle.std.specs.Prelude.{◌≡◌, ℕ, ◌+◌, ◌-◌, ◌<◌, ◌≤�
 use Rattle.std.specs.List.{AllByRecursion}
 use Rattle.std.specs.Option.{option_map, option_to_list}
 use Rattle.capture.specs.declared.packets.Captured.{Captured}
-use Rattle.machine.specs.Examples.{standard}
-use Rattle.machine.specs.State.{Core, running, Batches}
+use Rattle.machine.specs.Standard.{standard}
+use Rattle.machine.specs.State.{Core, configured}
+use Rattle.policy.specs.Batches.{Batches}
 use Rattle.machine.proofs.Kept.{Kept}
 use Rattle.replay.specs.Stages.{Task, Stage, core}
 use Rattle.replay.specs.Turns.{Playing, policy_of}
@@ -27,7 +28,7 @@ pub record FitCore (p : Batches) (x : Core) (coming : List Captured) (first : �
 
 -- the receiver is configured, by the replay's settings
 abbrev pub Fit : Batches → Stage → Type 0
-Fit p x = (x.receiver ≡ running standard (core x.receiver)) × FitCore p (core x.receiver) x.coming x.first x.task
+Fit p x = (x.receiver ≡ configured standard (core x.receiver)) × FitCore p (core x.receiver) x.coming x.first x.task
 
 -- and so is a replay under way
 abbrev pub Playable : {P : Type 0} → (P → ℕ → ℕ → ℕ) → ℕ → Playing P → Type 0

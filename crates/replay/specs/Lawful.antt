@@ -1,8 +1,8 @@
 -- All laws of load together.
 use Rattle.std.specs.Prelude.{List}
 use Rattle.board.specs.Bearers.{Bearer}
-use Rattle.machine.specs.Laws.{RefusalsLeave, Share, TrueRecords, LedgerAgrees, TrueAnswers, OnePlace, ArrivalOrder, NeverDeaf, OneWay, EqualTurns, BoundedBatches, Quiet, BoundedMemory}
-use Rattle.machine.specs.State.{Batches}
+use Rattle.machine.specs.Laws.{RefusalsLeave, Share, TrueRecords, LedgerAgrees, TrueAnswers, OnePlace, ArrivalOrder, NoLostWakeup, OneWay, EqualTurns, BoundedBatches, Quiet, BoundedMemory}
+use Rattle.policy.specs.Batches.{Batches}
 use Rattle.machine.specs.Trace.{Entry}
 
 -- of a trace, under a policy and over the bearers that the board showed at its start
@@ -14,7 +14,7 @@ pub record Lawful (p : Batches) (bs : List Bearer) (es : List Entry) : Type 0 wh
   pub true_answers : TrueAnswers p bs es
   pub one_place : OnePlace p bs es
   pub arrival_order : ArrivalOrder p bs es
-  pub never_deaf : NeverDeaf p bs es
+  pub no_lost_wakeup : NoLostWakeup p bs es
   pub one_way : OneWay p bs es
   pub equal_turns : EqualTurns p bs es
   pub bounded_batches : BoundedBatches p bs es

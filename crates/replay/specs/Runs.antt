@@ -5,9 +5,10 @@ use Rattle.capture.specs.declared.packets.Captured.{Captured}
 use Rattle.machine.specs.declared.answers.Period.{Period}
 use Rattle.machine.specs.declared.calls.Call.{Call}
 use Rattle.machine.specs.declared.calls.Call.TheVariants.{Configure}
-use Rattle.machine.specs.Examples.{standard}
+use Rattle.machine.specs.Standard.{standard, standard_numbers}
 use Rattle.machine.specs.Laws.{offered_in}
-use Rattle.machine.specs.State.{idle, Batches}
+use Rattle.machine.specs.State.{put_up}
+use Rattle.policy.specs.Batches.{Batches}
 use Rattle.machine.specs.Trace.{Entry, trace}
 use Rattle.replay.specs.declared.fates.Fallen.{Fallen}
 use Rattle.replay.specs.Fates.{fates, all_in_the_end}
@@ -38,7 +39,7 @@ module _ (p : Batches) (bs : List Bearer) where
 
   -- the trace of its calls, and of configure before them
   abbrev pub entries : List Call → List Entry
-  entries cs = trace p (idle bs) (Configure standard ∷ cs)
+  entries cs = trace p (put_up bs) (Configure standard_numbers ∷ cs)
 
   -- none of these calls is refused
   abbrev pub AllAccepted : (ps : List Captured) → Run ps → Type 0

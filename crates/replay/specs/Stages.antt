@@ -2,7 +2,7 @@
 use Rattle.std.specs.Prelude.{◌≡◌, ℕ, ◌-◌, ◌+◌, ◌*◌, min, Bool, true, false, cond, not, ◌&&◌, List, [], ◌∷◌, drop, Some, None, Ok, Option, Result, is_ok, is_some, ◌==◌, nat_le}
 use Rattle.std.specs.List.{slice_get, list_any}
 use Rattle.std.specs.Option.{option_map, option_map_or}
-use Rattle.board.specs.Bearers.{Bearer, any_waiting}
+use Rattle.board.specs.Bearers.{Bearer, any_in, any_in}
 use Rattle.capture.specs.declared.packets.Captured.{Captured}
 pub use Rattle.capture.specs.Meaning.{first_stamp}
 use Rattle.machine.specs.declared.answers.Answer.{Answer}
@@ -10,9 +10,11 @@ use Rattle.machine.specs.declared.answers.Answer.TheVariants.{Fetched}
 use Rattle.machine.specs.declared.calls.Call.{Call}
 use Rattle.machine.specs.declared.calls.Call.TheVariants.{Arrive, Step, Work, Fetch, Finish}
 use Rattle.machine.specs.declared.refusals.Refusal.{Refusal}
-use Rattle.machine.specs.Examples.{standard}
-use Rattle.machine.specs.Machine.{any_left, call, fresh}
-use Rattle.machine.specs.State.{Core, State, idle, running, Batches}
+use Rattle.machine.specs.Standard.{standard}
+use Rattle.machine.specs.Machine.{call, fresh}
+use Rattle.machine.specs.State.{Core, State, configured}
+use Rattle.machine.specs.State.{put_up}
+use Rattle.policy.specs.Batches.{Batches}
 
 -- the application's packet: its number, and the cycles that are still to go
 pub record Task : Type 0 where
@@ -28,12 +30,12 @@ pub record Stage : Type 0 where
 
 -- at the start the receiver is just configured, over a board, and all packets are still to arrive
 abbrev pub start : List Bearer → List Captured → Stage
-start bs ps = record { receiver = running standard (fresh bs); coming = ps; first = first_stamp ps; task = None }
+start bs ps = record { receiver = configured standard (fresh bs); coming = ps; first = first_stamp ps; task = None }
 
 -- what a receiver holds. That of a replay is configured from the start on; of one that is not, what it would hold then
 abbrev pub core : State → Core
-core (idle bs) = fresh bs
-core (running s x) = x
+core (put_up bs) = fresh bs
+core (configured s x) = x
 
 -- Time: the periods closed; and in cycles, now, and how far it is to the period's end.
 abbrev pub closed : Stage → ℕ
@@ -66,10 +68,10 @@ is_through x = option_map_or (λ (t : Task). t.to_go == 0) x.task false
 
 -- no packet is still to arrive, and none is in a bearer, the queue or out.
 abbrev pub holds_none : Core → Bool
-holds_none x = not (list_any (λ (v : Bearer). any_waiting v.waiting) x.bearers) && (not (any_left x.queue) && not (any_left x.out))
+holds_none x = not (list_any (λ (v : Bearer). any_in v.waiting) x.bearers) && (not (any_in x.queue) && not (any_in x.out))
 
 abbrev pub is_over : Stage → Bool
-is_over x = not (any_left x.coming) && holds_none (core x.receiver)
+is_over x = not (any_in x.coming) && holds_none (core x.receiver)
 
 -- a rule: whether it applies, and the call that is then made; at the stop, none
 abbrev pub Rule : Type 0
@@ -108,7 +110,7 @@ module _ (p : Batches) where
       ∷ (is_through x, option_map (λ (t : Task). Finish t.number) x.task)
       ∷ (is_ok (call p Step x.receiver).0, Some Step)
       ∷ (is_some x.task, option_map (λ (t : Task). Work (min t.to_go (span x))) x.task)
-      ∷ (any_left (core x.receiver).queue, Some Fetch)
+      ∷ (any_in (core x.receiver).queue, Some Fetch)
       ∷ (is_over x, None)
       ∷ (true, Some (Work (span x)))
       ∷ []

@@ -7,7 +7,8 @@ use Rattle.machine.specs.declared.calls.Call.{Call}
 use Rattle.machine.specs.declared.calls.Call.TheVariants.{Discard}
 use Rattle.machine.specs.declared.refusals.Refusal.{Refusal}
 use Rattle.machine.specs.Machine.{call}
-use Rattle.machine.specs.State.{Core, Batches}
+use Rattle.machine.specs.State.{Core}
+use Rattle.policy.specs.Batches.{Batches}
 use Rattle.receiver.specs.Receivers.{Receiving, batches}
 use Rattle.replay.specs.declared.fates.Decision.{Decision}
 use Rattle.replay.specs.declared.stages.Task.{Task as HeldTask}

@@ -1,7 +1,7 @@
 ghost use Rattle.std.specs.Prelude.{◌≡◌, ◌≤◌, length, Ok, IfOk, IfErr, OnOk, OnErr};
 ghost use Rattle.std.specs.List.{AllByRecursion};
 ghost use Rattle.capture.specs.Savefile.{meaning};
-ghost use Rattle.machine.specs.Examples.{four, standard_board};
+ghost use Rattle.machine.specs.Standard.{standard_board, four};
 ghost use Rattle.replay.specs.Answers.{Declines, EveryRun, Refuses, Replays, Tabled};
 ghost use Rattle.replay.specs.ByLedger.{RowsByLedger};
 ghost use Rattle.replay.specs.Fit.{Readable};
@@ -38,7 +38,7 @@ const NO_PERIOD: Period = Period {
 };
 
 /// Replays packets on the standard receiver, and answers the tables.
-#[tactic(auto, using(crate::proofs::Standard::configured))]
+#[tactic(auto, using(crate::proofs::Standard::standard_ready))]
 fn replayed(alloc: Global, packets: &[Captured]) -> Result<Tables, AllocError>
     requires readable { AllByRecursion (Readable 3 (first_stamp packets.now)) packets.now }
     requires few { length packets.now ≤ 1024 }

@@ -2,9 +2,10 @@ ghost use Rattle.std.specs.Prelude.{◌≡◌, ◌≤◌, length, Ok, IfOk};
 ghost use Rattle.std.specs.List.{AllByRecursion};
 ghost use Rattle.machine.specs.declared.answers.Answer.TheVariants.{Configured};
 ghost use Rattle.machine.specs.declared.calls.Call.TheVariants.{Configure};
-ghost use Rattle.machine.specs.Examples.{standard};
+ghost use Rattle.machine.specs.Standard.{standard, standard_numbers};
 ghost use Rattle.machine.specs.Machine.{call, fresh};
-ghost use Rattle.machine.specs.State.{idle, running};
+ghost use Rattle.machine.specs.State.{configured};
+ghost use Rattle.machine.specs.State.{put_up};
 ghost use Rattle.receiver.specs.Receivers.{batches};
 ghost use Rattle.replay.specs.Accounts.{Comes};
 ghost use Rattle.replay.specs.Fit.{Readable};
@@ -49,11 +50,11 @@ pub(crate) fn run<'a, B: Board + Drop, P: Policy + Drop>(
     packets: &[Captured],
     slots: &'a mut [Period],
 ) -> Result<Outcome<'a>, AllocError>
-    requires configured { call (batches (P.quotas policy) P.GREATEST) (Configure standard) (idle (B.bearers board)) ≡ (Ok Configured, running standard (fresh (B.bearers board))) }
+    requires ready { call (P.meaning policy) (Configure standard_numbers) (put_up (B.bearers board)) ≡ (Ok Configured, configured standard (fresh (B.bearers board))) }
     requires readable { AllByRecursion (Readable (length (B.bearers board)) (first_stamp packets.now)) packets.now }
     requires few { length packets.now ≤ 1024 }
     requires slots { length slots.old ≡ 1000 }
-    ensures value { IfOk result (λ o. Comes (batches (P.quotas policy) P.GREATEST) (B.bearers board) packets.now o) }
+    ensures value { IfOk result (λ o. Comes (P.meaning policy) (B.bearers board) packets.now o) }
 {
     let mut fates = vec![in alloc; None; packets.len()]?;
     let mut records = Ring::new(slots);

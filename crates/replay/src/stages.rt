@@ -1,7 +1,7 @@
 ghost use Rattle.std.specs.Prelude.{◌≡◌, ◌<◌, false, None, IfSome, IfOk, OnOk, OnErr, ◌≢◌, is_some, is_ok, min};
 ghost use Rattle.std.specs.Option.{option_map};
 ghost use Rattle.machine.specs.declared.calls.Call.TheVariants.{Step, Finish, Fetch, Work};
-ghost use Rattle.machine.specs.Machine.{any_left};
+ghost use Rattle.board.specs.Bearers.{any_in};
 ghost use Rattle.replay.specs.Fit.{Playable};
 ghost use Rattle.replay.specs.Stages.{closed, now, to_end, next, moment, span, is_due, is_through, is_over, first_stamp, arrival, core};
 ghost use Rattle.replay.specs.Turns.{Makes, Turned, answer_to, let_go, report};
@@ -81,14 +81,14 @@ impl<'a, B: Board, P: Policy> Stage<'a, B, P> {
 
     /// What the receiver tells.
     pub(crate) fn tell(&self) -> Report
-        requires fit { Playable P.quotas P.GREATEST self.now }
+        requires fit { Playable P.meaning self.now }
         ensures value { result ≡ report (core self.now.stage.receiver) }
     {
         self.receiver.tell()
     }
 
     fn now(&self) -> u64
-        requires fit { Playable P.quotas P.GREATEST self.now }
+        requires fit { Playable P.meaning self.now }
         ensures value { result ≡ now self.now.stage }
     {
         u64::from(self.tell().closed) * PERIOD + self.receiver.elapsed()
@@ -96,7 +96,7 @@ impl<'a, B: Board, P: Policy> Stage<'a, B, P> {
 
     /// Cycles to the period's end.
     fn to_end(&self) -> u64
-        requires fit { Playable P.quotas P.GREATEST self.now }
+        requires fit { Playable P.meaning self.now }
         ensures value { result ≡ to_end self.now.stage }
     {
         PERIOD - self.receiver.elapsed()
@@ -104,7 +104,7 @@ impl<'a, B: Board, P: Policy> Stage<'a, B, P> {
 
     /// The moment of the next packet, if one is still to arrive.
     fn next_moment(&self) -> Option<u64>
-        requires fit { Playable P.quotas P.GREATEST self.now }
+        requires fit { Playable P.meaning self.now }
         ensures value { result ≡ option_map (moment self.now.stage) (next self.now.stage) }
     {
         let next = self.coming.first()?;
@@ -112,7 +112,7 @@ impl<'a, B: Board, P: Policy> Stage<'a, B, P> {
     }
 
     fn is_due(&self) -> bool
-        requires fit { Playable P.quotas P.GREATEST self.now }
+        requires fit { Playable P.meaning self.now }
         ensures value { result ≡ is_due self.now.stage }
     {
         match self.next_moment() {
@@ -123,7 +123,7 @@ impl<'a, B: Board, P: Policy> Stage<'a, B, P> {
 
     /// Cycles to the period's end or to the next packet's moment, whichever comes first.
     fn span(&self) -> u64
-        requires fit { Playable P.quotas P.GREATEST self.now }
+        requires fit { Playable P.meaning self.now }
         ensures value { result ≡ span self.now.stage }
     {
         let to_end = self.to_end();
@@ -142,7 +142,7 @@ impl<'a, B: Board, P: Policy> Stage<'a, B, P> {
 
     /// Whether no packet is still to arrive and none is in a bearer, the queue or out: as many are gone as were numbered.
     fn is_over(&self) -> bool
-        requires fit { Playable P.quotas P.GREATEST self.now }
+        requires fit { Playable P.meaning self.now }
         ensures value { result ≡ is_over self.now.stage }
     {
         let counts = self.tell().counts;
@@ -153,7 +153,7 @@ impl<'a, B: Board, P: Policy> Stage<'a, B, P> {
     /// The next packet arrives.
     fn arrive(&mut self) -> Option<Decision>
         requires coming { next self.old.stage ≢ None }
-        ensures after { IfSome (next self.old.stage) (λ q. Makes P.quotas P.GREATEST (arrival q) self.old result self.new) }
+        ensures after { IfSome (next self.old.stage) (λ q. Makes P.meaning (arrival q) self.old result self.new) }
     {
         let (packet, rest) = self.coming.split_first()?;
         self.coming = rest;
@@ -166,8 +166,8 @@ impl<'a, B: Board, P: Policy> Stage<'a, B, P> {
 
     /// The application is through with its packet.
     fn finish(&mut self) -> Option<Decision>
-        requires fit { Playable P.quotas P.GREATEST self.old }
-        ensures after { IfSome self.old.stage.task (λ t. Makes P.quotas P.GREATEST (Finish t.number) self.old result self.new) }
+        requires fit { Playable P.meaning self.old }
+        ensures after { IfSome self.old.stage.task (λ t. Makes P.meaning (Finish t.number) self.old result self.new) }
     {
         let Task { receipt, to_go: _ } = self.task.take()?;
         let number = receipt.number();
@@ -181,8 +181,8 @@ impl<'a, B: Board, P: Policy> Stage<'a, B, P> {
     /// Goes on with the polling, unless that is refused.
     #[tactic(auto, using(machine::proofs::OneCall::call_refused))]
     fn step(&mut self) -> Result<Option<Decision>, Refusal>
-        ensures value { is_ok result ≡ is_ok (answer_to P.quotas P.GREATEST Step self.old) }
-        ensures after { IfOk result (λ d. Makes P.quotas P.GREATEST Step self.old d self.new) }
+        ensures value { is_ok result ≡ is_ok (answer_to P.meaning Step self.old) }
+        ensures after { IfOk result (λ d. Makes P.meaning Step self.old d self.new) }
         ensures same { OnErr result (self.new ≡ self.old) }
     {
         let progress = self.receiver.step()?;
@@ -192,10 +192,10 @@ impl<'a, B: Board, P: Policy> Stage<'a, B, P> {
     /// The application gets the queue's first packet, unless that is refused.
     #[tactic(auto, using(machine::proofs::OneCall::call_refused))]
     fn fetch(&mut self) -> Result<(), Refusal>
-        requires fit { Playable P.quotas P.GREATEST self.old }
+        requires fit { Playable P.meaning self.old }
         requires none { self.old.stage.task ≡ None }
-        ensures value { is_ok result ≡ any_left (core self.old.stage.receiver).queue }
-        ensures after { OnOk result (Makes P.quotas P.GREATEST Fetch self.old None self.new) }
+        ensures value { is_ok result ≡ any_in (core self.old.stage.receiver).queue }
+        ensures after { OnOk result (Makes P.meaning Fetch self.old None self.new) }
         ensures same { OnErr result (self.new ≡ self.old) }
     {
         let (_packet, receipt) = self.receiver.fetch()?;
@@ -208,9 +208,9 @@ impl<'a, B: Board, P: Policy> Stage<'a, B, P> {
 
     /// The application works on its packet until something else is to be done. Answers whether it has one.
     fn work_on(&mut self) -> bool
-        requires fit { Playable P.quotas P.GREATEST self.old }
+        requires fit { Playable P.meaning self.old }
         ensures value { result ≡ is_some self.old.stage.task }
-        ensures after { IfSome self.old.stage.task (λ t. Makes P.quotas P.GREATEST (Work (min t.to_go (span self.old.stage))) self.old None self.new) }
+        ensures after { IfSome self.old.stage.task (λ t. Makes P.meaning (Work (min t.to_go (span self.old.stage))) self.old None self.new) }
         ensures same { result ≡ false → self.new ≡ self.old }
     {
         let span = self.span();
@@ -226,9 +226,9 @@ impl<'a, B: Board, P: Policy> Stage<'a, B, P> {
 
     /// Time passes without a packet for the application, until something else is to be done.
     fn wait(&mut self)
-        requires fit { Playable P.quotas P.GREATEST self.old }
+        requires fit { Playable P.meaning self.old }
         requires none { self.old.stage.task ≡ None }
-        ensures after { Makes P.quotas P.GREATEST (Work (span self.old.stage)) self.old None self.new }
+        ensures after { Makes P.meaning (Work (span self.old.stage)) self.old None self.new }
     {
         let span = self.span();
         // Not refused, as above.
@@ -237,12 +237,12 @@ impl<'a, B: Board, P: Policy> Stage<'a, B, P> {
 
     /// A turn in which nothing is due, and no step can be made.
     fn pass(&mut self) -> Turn
-        requires fit { Playable P.quotas P.GREATEST self.old }
+        requires fit { Playable P.meaning self.old }
         requires open { closed self.old.stage < 1000 }
         requires due { is_due self.old.stage ≡ false }
         requires through { is_through self.old.stage ≡ false }
-        requires step { is_ok (answer_to P.quotas P.GREATEST Step self.old) ≡ false }
-        ensures value { Turned P.quotas P.GREATEST self.old result self.new }
+        requires step { is_ok (answer_to P.meaning Step self.old) ≡ false }
+        ensures value { Turned P.meaning self.old result self.new }
     {
         if self.work_on() {
             return Turn::Made(None);
@@ -260,8 +260,8 @@ impl<'a, B: Board, P: Policy> Stage<'a, B, P> {
     /// Does what is first to be done.
     #[tactic(auto, using(crate::proofs::Turning::turning))]
     pub(crate) fn turn(&mut self) -> Turn
-        requires fit { Playable P.quotas P.GREATEST self.old }
-        ensures value { Turned P.quotas P.GREATEST self.old result self.new }
+        requires fit { Playable P.meaning self.old }
+        ensures value { Turned P.meaning self.old result self.new }
     {
         if self.tell().closed as usize >= MOST_PERIODS {
             return Turn::Stop;
@@ -280,8 +280,8 @@ impl<'a, B: Board, P: Policy> Stage<'a, B, P> {
 
     /// Lets the receiver go. The application's packet, if it has one, is discarded, in no turn.
     pub(crate) fn end(self) -> Receiver<B, P>
-        requires fit { Playable P.quotas P.GREATEST self }
-        ensures value { result ≡ let_go P.quotas P.GREATEST self.entry }
+        requires fit { Playable P.meaning self }
+        ensures value { result ≡ let_go P.meaning self.entry }
     {
         let Stage {
             mut receiver,

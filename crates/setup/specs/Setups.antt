@@ -2,8 +2,8 @@
 use Rattle.std.specs.Prelude.{Bool, cond, ◌&&◌, List, [], length, min, nat_le, nat_lt, Some, None, Option}
 use Rattle.board.specs.Bearers.{Bearer, after_offer}
 use Rattle.board.specs.declared.packets.Packet.{Packet}
-use Rattle.machine.specs.Examples.{mailbox, ring}
-use Rattle.machine.specs.State.{Batches}
+use Rattle.machine.specs.Standard.{ring, mailbox}
+use Rattle.policy.specs.Batches.{Batches}
 use Rattle.policy.specs.Quotas.{backlog_quota, cut_figure}
 use Rattle.receiver.specs.Receivers.{batches}
 use Rattle.setup.specs.declared.boards.RawBearer.{RawBearer}

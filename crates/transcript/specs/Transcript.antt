@@ -5,8 +5,9 @@ use Rattle.board.specs.Bearers.{Bearer}
 use Rattle.conduct.specs.Lists.{replies_to}
 use Rattle.conduct.specs.declared.replies.Reply.{Reply}
 use Rattle.conduct.specs.declared.replies.Reply.TheVariants.{Accepted, Refused, NoReceipt}
-use Rattle.machine.specs.Examples.{four, standard_board}
-use Rattle.machine.specs.State.{Batches, idle}
+use Rattle.machine.specs.Standard.{standard_board, four}
+use Rattle.machine.specs.State.{put_up}
+use Rattle.policy.specs.Batches.{Batches}
 use Rattle.script.specs.Answers.{said}
 use Rattle.script.specs.Refusals.{refused}
 use Rattle.script.specs.Script.{Meaning, meaning}
@@ -24,7 +25,7 @@ lines_of replies = flat_map (λ r. line_of r ++ 10 ∷ []) replies
 
 -- on a receiver put up over a policy and bearers: the lines of the replies to all calls, or the first line that cannot be read
 abbrev pub answers : Batches → List Bearer → Meaning → Result (List ℕ) Failure
-answers p bs (Ok calls) = Ok (lines_of (replies_to p (idle bs) calls))
+answers p bs (Ok calls) = Ok (lines_of (replies_to p (put_up bs) calls))
 answers p bs (Err u) = Err (Unread u)
 
 -- no text above 1,048,576 bytes is read

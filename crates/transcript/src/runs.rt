@@ -1,5 +1,5 @@
 ghost use Rattle.std.specs.Prelude.{◌≡◌, IfOk, string_bytes};
-ghost use Rattle.machine.specs.State.{idle};
+ghost use Rattle.machine.specs.State.{put_up};
 ghost use Rattle.receiver.specs.Receivers.{batches};
 ghost use Rattle.conduct.specs.Lists.{replies_to};
 ghost use Rattle.transcript.specs.Transcript.{Tells, lines_of, transcript, transcript_over};
@@ -31,7 +31,7 @@ fn told<B: Board + Drop, P: Policy + Drop>(
     policy: P,
     calls: &[Call],
 ) -> Result<String, AllocError>
-    ensures value { IfOk result (λ text. string_bytes text ≡ lines_of (replies_to (batches (P.quotas policy) P.GREATEST) (idle (B.bearers board)) calls.now)) }
+    ensures value { IfOk result (λ text. string_bytes text ≡ lines_of (replies_to (P.meaning policy) (put_up (B.bearers board)) calls.now)) }
 {
     let Ok(conducted) = conduct(alloc, board, policy, calls) else {
         return Err(AllocError);
@@ -47,7 +47,7 @@ pub fn run_over<B: Board + Drop, P: Policy + Drop>(
     policy: P,
     text: &[u8],
 ) -> Result<String, Failure>
-    ensures value { Tells (transcript_over (batches (P.quotas policy) P.GREATEST) (B.bearers board) text.now) result }
+    ensures value { Tells (transcript_over (P.meaning policy) (B.bearers board) text.now) result }
 {
     if text.len() > LONGEST {
         return Err(Failure::TooLong);

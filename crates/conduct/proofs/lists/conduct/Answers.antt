@@ -1,6 +1,6 @@
 use Rattle.std.proofs.Common.{arith, ◌≡◌, ◌∙◌, ap, map}
 use Rattle.std.proofs.lemmas.Grind.{common_steps}
-use Rattle.machine.specs.Laws.{Always, Law, RefusalsLeave, Share, TrueRecords, LedgerAgrees, TrueAnswers, OnePlace, ArrivalOrder, NeverDeaf, OneWay, EqualTurns, BoundedBatches, Quiet, BoundedMemory}
+use Rattle.machine.specs.Laws.{Always, Law, RefusalsLeave, Share, TrueRecords, LedgerAgrees, TrueAnswers, OnePlace, ArrivalOrder, NoLostWakeup, OneWay, EqualTurns, BoundedBatches, Quiet, BoundedMemory}
 use Rattle.machine.proofs.Agreement.{ledger_agrees, true_answers}
 use Rattle.machine.proofs.Batches.{bounded_batches}
 use Rattle.machine.proofs.Order.{arrival_order}
@@ -8,9 +8,9 @@ use Rattle.machine.proofs.Places.{one_place}
 use Rattle.machine.proofs.Room.{bounded_memory}
 use Rattle.machine.proofs.Runs.{refusals_leave}
 use Rattle.machine.proofs.Share.{share, true_records}
-use Rattle.machine.proofs.Tidy.{never_deaf, one_way, quiet}
+use Rattle.machine.proofs.Tidy.{no_lost_wakeup, one_way, quiet}
 use Rattle.machine.proofs.Turns.{equal_turns}
-use Rattle.machine.specs.State.{idle}
+use Rattle.machine.specs.State.{put_up}
 use Rattle.receiver.specs.declared.receipts.Receipt.{Receipt}
 use Rattle.receiver.specs.Receivers.{batches}
 use Rattle.receiver.proofs.Called.{bounded}
@@ -20,10 +20,10 @@ use Rattle.conduct.proofs.lists.conduct.Goals as goal
 
 -- a law that always holds is kept by the calls that were made
 kept : (g : _) (c : goal.After-loop-call g) (law : Law) → Always law →
-    Keeps law (batches (g.P.Policy.quotas c.args.policy) g.P.Policy.GREATEST) (g.B.Board.bearers c.args.board) c.args.calls.now
+    Keeps law (g.P.Policy.meaning c.args.policy) (g.B.Board.bearers c.args.board) c.args.calls.now
 kept g c law always =
-    keeps (batches (g.P.Policy.quotas c.args.policy) g.P.Policy.GREATEST) (g.B.Board.bearers c.args.board) c.args.calls.now
-    law always (bounded (g.met.P.Policy.bounds c.args.policy) g.met.P.Policy.range)
+    keeps (g.P.Policy.meaning c.args.policy) (g.B.Board.bearers c.args.board) c.args.calls.now
+    law always (bounded (g.met.P.Policy.bounds c.args.policy))
 
 pub returns-clause-refusals_leave : goal.returns-clause-refusals_leave
 returns-clause-refusals_leave g c = kept g c RefusalsLeave refusals_leave
@@ -47,7 +47,7 @@ pub returns-clause-arrival_order : goal.returns-clause-arrival_order
 returns-clause-arrival_order g c = kept g c ArrivalOrder arrival_order
 
 pub returns-clause-never_deaf : goal.returns-clause-never_deaf
-returns-clause-never_deaf g c = kept g c NeverDeaf never_deaf
+returns-clause-never_deaf g c = kept g c NoLostWakeup no_lost_wakeup
 
 pub returns-clause-one_way : goal.returns-clause-one_way
 returns-clause-one_way g c = kept g c OneWay one_way
@@ -66,7 +66,7 @@ returns-clause-bounded_memory g c = kept g c BoundedMemory bounded_memory
 
 pub returns-clause-out : goal.returns-clause-out
 returns-clause-out g c =
-    let p = batches (g.P.Policy.quotas c.args.policy) g.P.Policy.GREATEST in
+    let p = g.P.Policy.meaning c.args.policy in
     let bs = g.B.Board.bearers c.args.board in
-    let ended : c.loop-call.receiver.state ≡ after_list p (idle bs) c.args.calls.now = grind (arith, common_steps) in
+    let ended : c.loop-call.receiver.state ≡ after_list p (put_up bs) c.args.calls.now = grind (arith, common_steps) in
     ap (map (λ (r : Receipt). r.number)) (c.loop-call.invariant.held ∙ ap receipts_of ended) ∙ ledger_out p bs c.args.calls.now

@@ -1,5 +1,5 @@
 use Rattle.std.proofs.Common.{◌≡◌, ◌≤◌, ◌++◌, drop, length, vec_len, vec_capacity, vec_items}
-use Rattle.machine.specs.State.{idle}
+use Rattle.machine.specs.State.{put_up}
 use Rattle.receiver.specs.Receivers.{batches}
 use Rattle.conduct.specs.Lists.{after_list, receipts_of, replies_to}
 use Rattle.conduct.proofs.lists.conduct.Given as goal
@@ -7,8 +7,8 @@ use Rattle.conduct.proofs.lists.conduct.Given as goal
 -- what is made so far, and what is left to make, give the whole
 abbrev pub invariant-loop-call : goal.invariant-loop-call
 invariant-loop-call g l =
-    let p = batches (g.P.Policy.quotas l.fn.policy) g.P.Policy.GREATEST in
-    let start = idle (g.B.Board.bearers l.fn.board) in
+    let p = g.P.Policy.meaning l.fn.policy in
+    let start = put_up (g.B.Board.bearers l.fn.board) in
     let rest = drop l.call-index l.calls in
     record {
       replies : vec_items l.replies ++ replies_to p l.receiver.state rest ≡ replies_to p start l.calls;

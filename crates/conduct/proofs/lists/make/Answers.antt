@@ -12,6 +12,6 @@ use Rattle.conduct.proofs.lists.make.Goals as goal
 pub push_reserved-requires : goal.push_reserved-requires
 push_reserved-requires g c =
     let r = c.args.receiver.now in
-    let p = batches (g.P.Policy.quotas r.policy) g.P.Policy.GREATEST in
+    let p = g.P.Policy.meaning r.policy in
     let room = fetch_room (happened p Fetch r.state {r = Ok (Fetched c.in-Ok.packet)} (search rules) refl) in
     omega (arith, room, length-map (out_of r.state) unspent, ap length c.requires.held, c.requires.room, c.args.receipts.now.ok.0)

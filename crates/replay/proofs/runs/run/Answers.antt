@@ -8,7 +8,7 @@ use Rattle.replay.proofs.runs.run.Goals as goal
 
 pub loop-decision-init : goal.loop-decision-init
 loop-decision-init g c = record {
-  going = starts_going (g.met.P.Policy.bounds c.args.policy) g.met.P.Policy.range c.requires.configured c.requires.readable c.requires.few
+  going = starts_going (g.met.P.Policy.bounds c.args.policy) c.requires.ready c.requires.readable c.requires.few
       (search rules) (search rules) (search rules);
   room = search rules;
 }

@@ -7,7 +7,7 @@ use Rattle.replay.proofs.runs.run.Given as goal
 -- the turns made so far, and what is written down of them
 abbrev pub invariant-loop-decision : goal.invariant-loop-decision
 invariant-loop-decision g l = record {
-  going : Going g.P.Policy.quotas g.P.Policy.GREATEST (g.B.Board.bearers l.fn.board) l.packets l.fn.policy l.turns l.stage (vec_items l.fates) (held l.records);
+  going : Going g.P.Policy.meaning (g.B.Board.bearers l.fn.board) l.packets l.fn.policy l.turns l.stage (vec_items l.fates) (held l.records);
   room : places l.records ≡ 1000;
 }
 

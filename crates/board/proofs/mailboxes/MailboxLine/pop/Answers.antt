@@ -1,6 +1,6 @@
 use Rattle.std.proofs.Common.{sym, ap, ◌∙◌, subst, ◌≤◌, ◌-◌}
 use Rattle.board.specs.Line.{Numbers, line, mail_packets}
-use Rattle.board.proofs.Mails.{any_left, popped, first_shown, kept_popped, none_shown, none_popped}
+use Rattle.board.proofs.Mails.{any_in, popped, first_shown, kept_popped, none_shown, none_popped}
 use Rattle.board.proofs.mailboxes.MailboxLine.pop.Goals as goal
 
 pub returns-in_err-held-clause-value : goal.returns-in_err-held-clause-value
@@ -10,7 +10,7 @@ pub returns-in_err-held-clause-after : goal.returns-in_err-held-clause-after
 returns-in_err-held-clause-after c = none_popped c.self.view_is c.self.invariant c.in_err-held.ensures.value
 
 pub overflow_sub-self : goal.overflow_sub-self
-overflow_sub-self c = any_left c.self.view_is c.self.invariant c.in_ok-held.ensures.value
+overflow_sub-self c = any_in c.self.view_is c.self.invariant c.in_ok-held.ensures.value
 
 pub invariant_of-self : goal.invariant_of-self
 invariant_of-self c =

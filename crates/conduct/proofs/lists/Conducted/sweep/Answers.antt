@@ -10,11 +10,11 @@ back g c = search rules
 pub returns-in-Err-clause-refused : goal.returns-in-Err-clause-refused
 returns-in-Err-clause-refused g c =
     let kept = c.loop-receipt.invariant in
-    ends_there (λ q. batches (g.P.Policy.quotas q) g.P.Policy.GREATEST) c.args.self.receiver c.loop-receipt.self.receiver c.discard.new.self
+    ends_there (λ q. g.P.Policy.meaning q) c.args.self.receiver c.loop-receipt.self.receiver c.discard.new.self
     c.args.self.receipts.items c.pop.new.self.items c.push_reserved.new.self.items c.in-Some.receipt c.in-Err.unspent.refusal
     kept.policy (rw c.in-Some.ensures.items at kept.swept) c.in-Err.ensures.value c.discard.ensures.after (back g c)
 
 pub returns-in-Err-clause-all_out : goal.returns-in-Err-clause-all_out
 returns-in-Err-clause-all_out g c =
-    λ out. absurd (not_all_out (batches (g.P.Policy.quotas c.args.self.receiver.policy) g.P.Policy.GREATEST) c.args.self.receiver c.discard.new.self c.args.self.receipts.items c.pop.new.self.items
+    λ out. absurd (not_all_out (g.P.Policy.meaning c.args.self.receiver.policy) c.args.self.receiver c.discard.new.self c.args.self.receipts.items c.pop.new.self.items
     c.push_reserved.new.self.items c.in-Some.receipt (returns-in-Err-clause-refused g c) (back g c) out)

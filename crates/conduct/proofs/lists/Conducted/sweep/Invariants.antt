@@ -6,7 +6,7 @@ use Rattle.conduct.proofs.lists.Conducted.sweep.Given as goal
 -- the sweep of what is left is the sweep of all
 abbrev pub invariant-loop-receipt : goal.invariant-loop-receipt
 invariant-loop-receipt g l =
-    let p = batches (g.P.Policy.quotas l.fn.self.receiver.policy) g.P.Policy.GREATEST in
+    let p = g.P.Policy.meaning l.fn.self.receiver.policy in
     let all = l.fn.self in
     record {
       swept : swept p l.self.receiver.state (reverse (vec_items l.self.receipts)) ≡ swept p all.receiver.state (reverse (vec_items all.receipts));

@@ -1,7 +1,8 @@
 use Rattle.std.proofs.Common.{arith, sym, ap, subst, ◌∙◌, ◌≡◌, ℕ, length, ◌+◌, ◌-◌}
 use Rattle.machine.specs.State.{Core}
 use Rattle.machine.specs.Moves.{open_bearer, open_gate, on_each}
-use Rattle.machine.proofs.Listed.{Openable, openable_step}
+use Rattle.machine.specs.Tidy.{Openable}
+use Rattle.machine.proofs.Listed.{openable_step}
 use Rattle.receiver.proofs.Each.{each_next, each_done}
 use Rattle.receiver.proofs.cores.Core.open_gate.Goals as goal
 

@@ -1,6 +1,6 @@
 use Rattle.std.proofs.Common.{◌≡◌, ◌≤◌, ◌-◌}
 use Rattle.machine.specs.Moves.{open_bearer, on_each}
-use Rattle.machine.proofs.Listed.{Openable}
+use Rattle.machine.specs.Tidy.{Openable}
 use Rattle.receiver.proofs.cores.Core.open_gate.Given as goal
 
 abbrev pub invariant-loop-bearer : goal.invariant-loop-bearer

@@ -1,5 +1,4 @@
 use Rattle.std.proofs.Common.{◌∙◌, ap, Ok, refl}
-use Rattle.receiver.specs.Receivers.{batches}
 use Rattle.machine.specs.declared.calls.Call.TheVariants.{Tell}
 use Rattle.receiver.proofs.Called.{answers}
 use Rattle.receiver.proofs.Unconfigured.{tells}
@@ -8,6 +7,6 @@ use Rattle.receiver.proofs.receivers.Receiver.tell.Goals as goal
 pub returns : goal.returns
 returns g c = record {
   value = ap Ok c.tell.ensures.value
-      ∙ answers g.P.Policy.quotas g.P.Policy.GREATEST c.self.inside.policy c.self.inside.core c.self.view_is {q = c.self.inside.settings} refl Tell
-      (tells (batches (g.P.Policy.quotas c.self.inside.policy) g.P.Policy.GREATEST) c.self.inside.settings c.self.inside.core c.self.invariant);
+      ∙ answers g.P.Policy.meaning c.self.inside.policy c.self.inside.core c.self.view_is {q = c.self.inside.settings} refl Tell
+      (tells (g.P.Policy.meaning c.self.inside.policy) c.self.inside.settings c.self.inside.core g.P.Policy.GREATEST c.self.invariant);
 }

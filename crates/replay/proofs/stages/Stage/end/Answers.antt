@@ -11,8 +11,8 @@ pub unwrap-requires : goal.unwrap-requires
 unwrap-requires g c =
     let x = c.args.self in
     let n = c.in-Some.field-0.receipt.number in
-    let p = policy_of g.P.Policy.quotas g.P.Policy.GREATEST x in
+    let p = policy_of g.P.Policy.meaning x in
     let out = task_out p x.stage c.requires.fit (record { number = n; to_go = c.in-Some.field-0.to_go }) (search rules) in
     as_answered _ _ c.discard.result (Ok Discarded)
-    (c.discard.ensures.value ∙ ap (λ (v : Playing _). answer_to g.P.Policy.quotas g.P.Policy.GREATEST (Discard n) v) c.self.view_is
+    (c.discard.ensures.value ∙ ap (λ (v : Playing _). answer_to g.P.Policy.meaning (Discard n) v) c.self.view_is
     ∙ discard_done p n x.stage.receiver out)

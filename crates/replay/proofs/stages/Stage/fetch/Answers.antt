@@ -11,12 +11,12 @@ returns-in_err-_packet-clause-value g c =
     let x = c.args.self.now in
     let e = err_from_is_err_and c.from_residual.result c.from_residual.ensures.1 in
     ap is_ok e.1 ∙ sym (ap is_ok c.in_err-_packet.was) ∙ as_answered _ _ c.fetch.result _ c.fetch.ensures.value
-    ∙ ap (λ (v : Playing _). is_ok (answer_to g.P.Policy.quotas g.P.Policy.GREATEST Fetch v)) c.self.view_is
-    ∙ sym (fetched_if_left (policy_of g.P.Policy.quotas g.P.Policy.GREATEST x) x.stage c.requires.fit c.requires.none)
+    ∙ ap (λ (v : Playing _). is_ok (answer_to g.P.Policy.meaning Fetch v)) c.self.view_is
+    ∙ sym (fetched_if_left (policy_of g.P.Policy.meaning x) x.stage c.requires.fit c.requires.none)
 
 pub returns-clause-value : goal.returns-clause-value
 returns-clause-value g c =
     let x = c.args.self.now in
     sym (ap is_ok c.in_ok-_packet.was) ∙ as_answered _ _ c.fetch.result _ c.fetch.ensures.value
-    ∙ ap (λ (v : Playing _). is_ok (answer_to g.P.Policy.quotas g.P.Policy.GREATEST Fetch v)) c.self.view_is
-    ∙ sym (fetched_if_left (policy_of g.P.Policy.quotas g.P.Policy.GREATEST x) x.stage c.requires.fit c.requires.none)
+    ∙ ap (λ (v : Playing _). is_ok (answer_to g.P.Policy.meaning Fetch v)) c.self.view_is
+    ∙ sym (fetched_if_left (policy_of g.P.Policy.meaning x) x.stage c.requires.fit c.requires.none)

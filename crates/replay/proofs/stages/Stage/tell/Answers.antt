@@ -1,5 +1,5 @@
 use Rattle.std.proofs.Common.{ap, ◌∙◌}
-use Rattle.machine.specs.Examples.{standard}
+use Rattle.machine.specs.Standard.{standard}
 use Rattle.replay.specs.Stages.{core}
 use Rattle.replay.specs.Turns.{Playing}
 use Rattle.replay.proofs.Told.{tells}
