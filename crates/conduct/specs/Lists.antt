@@ -5,8 +5,7 @@ use Rattle.machine.specs.declared.answers.Answer.{Answer}
 use Rattle.machine.specs.declared.calls.Call.{Call}
 use Rattle.machine.specs.declared.calls.Call.TheVariants.{Finish, Discard}
 use Rattle.machine.specs.declared.refusals.Refusal.{Refusal}
-use Rattle.machine.specs.State.{State, out_of}
-use Rattle.machine.specs.State.{put_up}
+use Rattle.machine.specs.State.{State, out_of, put_up}
 use Rattle.policy.specs.Batches.{Batches}
 use Rattle.machine.specs.Machine.{call}
 use Rattle.machine.specs.Trace.{Entry, trace, end_of}
@@ -39,22 +38,22 @@ module _ (p : Batches) where
   abbrev pub reply_to : Call → State → Reply
   reply_to c t = cond (is_made c (out_of t)) (reply_of (call p c t).0) NoReceipt
 
-  abbrev pub after_turn : Call → State → State
-  after_turn c t = cond (is_made c (out_of t)) (call p c t).1 t
+  abbrev pub after_one : Call → State → State
+  after_one c t = cond (is_made c (out_of t)) (call p c t).1 t
 
   -- the reply to each call of a list
   abbrev pub replies_to : State → List Call → List Reply
   replies_to t [] = []
-  replies_to t (c ∷ cs) = reply_to c t ∷ replies_to (after_turn c t) cs
+  replies_to t (c ∷ cs) = reply_to c t ∷ replies_to (after_one c t) cs
 
   -- the calls of a list that are made
-  abbrev pub made : State → List Call → List Call
-  made t [] = []
-  made t (c ∷ cs) = cond (is_made c (out_of t)) (c ∷ made (call p c t).1 cs) (made t cs)
+  abbrev pub made_calls : State → List Call → List Call
+  made_calls t [] = []
+  made_calls t (c ∷ cs) = cond (is_made c (out_of t)) (c ∷ made_calls (call p c t).1 cs) (made_calls t cs)
 
   -- their trace, and the receiver where it ends
   abbrev pub conducted : State → List Call → List Entry
-  conducted t cs = trace p t (made t cs)
+  conducted t cs = trace p t (made_calls t cs)
 
   abbrev pub after_list : State → List Call → State
   after_list t cs = end_of t (conducted t cs)

@@ -1,8 +1,8 @@
 //! A list of calls made on a receiver, whole: every reply, the receiver, and the receipts still held.
 #![tactic(auto)]
 
-mod held;
 mod lists;
+mod receipts;
 mod replies;
 mod sweeps;
 #[cfg(test)]

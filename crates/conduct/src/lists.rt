@@ -1,21 +1,17 @@
 ghost use Rattle.std.specs.Prelude.{◌≡◌, ◌≤◌, map, IfOk, IfErr, OnOk, vec_capacity};
-ghost use Rattle.machine.specs.Laws.{ArrivalOrder, BoundedBatches, BoundedMemory, EqualTurns, LedgerAgrees, NoLostWakeup, OnePlace, OneWay, Quiet, RefusalsLeave, Share, TrueAnswers, TrueRecords};
+ghost use Rattle.machine.specs.Laws.{Lawful};
 ghost use Rattle.machine.specs.Ledger.{ledger};
 ghost use Rattle.machine.specs.State.{put_up};
-ghost use Rattle.receiver.specs.Receivers.{batches};
 ghost use Rattle.receiver.specs.declared.receipts.Receipt.{Receipt};
-ghost use Rattle.conduct.specs.Lists.{Keeps, after_list, after_turn, conducted, receipts_of, replies_to, reply_to};
+ghost use Rattle.conduct.specs.Lists.{Keeps, after_list, after_one, conducted, receipts_of, replies_to, reply_to};
 
-use crate::held::take;
+use crate::receipts::take;
 use crate::replies::Reply;
 use board::Board;
 use machine::{Answer, Call};
 use policy::Policy;
-use receiver::{Receipt, Receiver};
+use receiver::{MOST_OUT, Receipt, Receiver};
 use std::alloc::Global;
-
-/// No more packets are out than this.
-const MOST_OUT: usize = 16;
 
 /// What a list of calls left.
 pub struct Conducted<B: Board, P: Policy> {
@@ -43,7 +39,7 @@ fn make<B: Board, P: Policy>(
     requires held { receipts.old.items ≡ receipts_of receiver.old.state }
     requires room { MOST_OUT ≤ vec_capacity receipts.old }
     ensures value { result ≡ reply_to (P.meaning receiver.old.policy) call receiver.old.state }
-    ensures after { receiver.new ≡ record receiver.old { state = after_turn (P.meaning receiver.old.policy) call receiver.old.state } }
+    ensures after { receiver.new ≡ record receiver.old { state = after_one (P.meaning receiver.old.policy) call receiver.old.state } }
     ensures held { receipts.new.items ≡ receipts_of receiver.new.state }
     ensures room { MOST_OUT ≤ vec_capacity receipts.new }
 {
@@ -96,19 +92,7 @@ pub fn conduct<B: Board, P: Policy>(
     ensures receipts { IfOk result (λ d. d.receipts.items ≡ receipts_of d.receiver.state) }
     ensures out { IfOk result (λ d. map (λ (r : Receipt). r.number) d.receipts.items ≡ (ledger (B.bearers board) (conducted (P.meaning policy) (put_up (B.bearers board)) calls.now)).columns.out) }
     ensures no_memory { IfErr result (λ e. e ≡ record { board = board; policy = policy }) }
-    ensures refusals_leave { OnOk result (Keeps RefusalsLeave (P.meaning policy) (B.bearers board) calls.now) }
-    ensures share { OnOk result (Keeps Share (P.meaning policy) (B.bearers board) calls.now) }
-    ensures true_records { OnOk result (Keeps TrueRecords (P.meaning policy) (B.bearers board) calls.now) }
-    ensures ledger_agrees { OnOk result (Keeps LedgerAgrees (P.meaning policy) (B.bearers board) calls.now) }
-    ensures true_answers { OnOk result (Keeps TrueAnswers (P.meaning policy) (B.bearers board) calls.now) }
-    ensures one_place { OnOk result (Keeps OnePlace (P.meaning policy) (B.bearers board) calls.now) }
-    ensures arrival_order { OnOk result (Keeps ArrivalOrder (P.meaning policy) (B.bearers board) calls.now) }
-    ensures no_lost_wakeup { OnOk result (Keeps NoLostWakeup (P.meaning policy) (B.bearers board) calls.now) }
-    ensures one_way { OnOk result (Keeps OneWay (P.meaning policy) (B.bearers board) calls.now) }
-    ensures equal_turns { OnOk result (Keeps EqualTurns (P.meaning policy) (B.bearers board) calls.now) }
-    ensures bounded_batches { OnOk result (Keeps BoundedBatches (P.meaning policy) (B.bearers board) calls.now) }
-    ensures quiet { OnOk result (Keeps Quiet (P.meaning policy) (B.bearers board) calls.now) }
-    ensures bounded_memory { OnOk result (Keeps BoundedMemory (P.meaning policy) (B.bearers board) calls.now) }
+    ensures laws { OnOk result (Keeps Lawful (P.meaning policy) (B.bearers board) calls.now) }
 {
     let Ok(mut replies) = Vec::with_capacity(alloc, calls.len()) else {
         return Err(NoMemory { board, policy });

@@ -1,5 +1,4 @@
 ghost use Rattle.std.specs.Prelude.{◌≡◌, ◌≢◌, [], IsOk, IfOk, IfErr, MatchResult};
-ghost use Rattle.receiver.specs.Receivers.{batches};
 ghost use Rattle.conduct.specs.Lists.{receipts_of};
 ghost use Rattle.conduct.specs.Sweeps.{Sweeps};
 

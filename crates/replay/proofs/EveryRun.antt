@@ -12,12 +12,12 @@ use Rattle.machine.specs.State.{State}
 use Rattle.machine.specs.Trace.{Entry, trace}
 use Rattle.replay.specs.Answers.{EveryRun, StandardRun}
 use Rattle.replay.specs.ByLedger.{RowsByLedger}
-use Rattle.replay.specs.Lawful.{Lawful}
+use Rattle.machine.specs.Laws.{Lawful}
 use Rattle.replay.specs.Runs.{AllAccepted, OneRun, entries}
 use Rattle.replay.specs.Fit.{Fit}
 use Rattle.replay.specs.Stages.{start}
 use Rattle.replay.proofs.Fits.{start_fits, stays_fit, turn_goes}
-use Rattle.replay.proofs.Laws.{lawful}
+use Rattle.machine.proofs.Lawful.{lawful}
 use Rattle.replay.proofs.Led.{ByTurn, each_turn, one_stop}
 use Rattle.replay.proofs.Readings.{readable, few}
 use Rattle.replay.proofs.Rows.{by_ledger}

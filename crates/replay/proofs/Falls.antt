@@ -10,7 +10,7 @@ use Rattle.capture.specs.declared.packets.Captured.{Captured}
 use Rattle.machine.specs.declared.answers.Answer.{Answer}
 use Rattle.machine.specs.declared.calls.Call.{Call}
 use Rattle.machine.specs.declared.calls.Call.TheVariants.{Step, Work, Fetch}
-use Rattle.machine.specs.declared.calls.RawSettings.{RawSettings}
+use Rattle.machine.specs.Settings.{Settings}
 use Rattle.machine.specs.Standard.{standard}
 use Rattle.machine.specs.Machine.{call}
 use Rattle.machine.specs.Moves.{is_over}
@@ -80,11 +80,11 @@ module _ (p : Batches) (x : Core) where
   Lighter c y = load y + (falls_by c + 5 * time x.clock) ≤ load x + 5 * time y.clock
 
   move_lighter : (c : Call) (a : Answer) (y : Core) → Move standard p x c a y → Lighter c y
-  move_lighter _ _ _ (signalled l r e) = omega (arith, settled_time (record x.clock { elapsed = x.clock.elapsed + 60; used = x.clock.used + 60 }))
-  move_lighter _ _ _ (begun {b = b} e i u h) =
+  move_lighter _ _ _ (signalled l r e _) = omega (arith, settled_time (record x.clock { elapsed = x.clock.elapsed + 60; used = x.clock.used + 60 }))
+  move_lighter _ _ _ (begun {b = b} e i u h _) =
       omega (arith, ap granted e, granted_most, settled_time (record x.clock { elapsed = x.clock.elapsed + 80; used = x.clock.used + 80 }))
-  move_lighter _ _ _ (emptied {g = g} e w some) = omega (arith, granted_left x.grant g e some)
-  move_lighter _ _ _ (taken {g = g} {q = q} {m = m} {room = room} e w some less r) =
+  move_lighter _ _ _ (emptied {g = g} e w some _) = omega (arith, granted_left x.grant g e some)
+  move_lighter _ _ _ (taken {g = g} {q = q} {m = m} {room = room} e w some less r _) =
       let cost : ℕ = (bearer_of x.bearers g.bearer).cost + cost_of_length q.length in
       omega (
         arith,
@@ -94,14 +94,14 @@ module _ (p : Batches) (x : Core) where
         length_dear q.length,
         settled_time (record x.clock { elapsed = x.clock.elapsed + cost; used = x.clock.used + cost }),
       )
-  move_lighter _ _ _ (rescheduled {g = g} e) = omega (arith, granted_some x.grant g e)
-  move_lighter _ _ _ (completed {g = g} e w r) = omega (arith, granted_some x.grant g e)
-  move_lighter _ _ _ (worked {c = c} h) = omega (arith, settled_time (record x.clock { elapsed = x.clock.elapsed + c; offered = x.clock.offered + c }))
-  move_lighter _ _ _ (fetched e) = omega (arith, ap length e)
+  move_lighter _ _ _ (rescheduled {g = g} e _) = omega (arith, granted_some x.grant g e)
+  move_lighter _ _ _ (completed {g = g} e w r _) = omega (arith, granted_some x.grant g e)
+  move_lighter _ _ _ (worked {c = c} h _) = omega (arith, settled_time (record x.clock { elapsed = x.clock.elapsed + c; offered = x.clock.offered + c }))
+  move_lighter _ _ _ (fetched e _) = omega (arith, ap length e)
   move_lighter _ _ _ _ = omega arith
 
-  lighter : (c : Call) (a : Answer) (z : Core) {v : RawSettings} → Happens p (configured standard x) c (Ok a) (configured v z) → Lighter c z
-  lighter c a _ (moved {y = y} m _) =
+  lighter : (c : Call) (a : Answer) (z : Core) {v : Settings} → Happens p (configured standard x) c (Ok a) (configured v z) → Lighter c z
+  lighter c a _ (moved {y = y} m) =
       let u = gate_unmoved standard x y in
       omega (arith, move_lighter c a y m, ap granted u.grant, ap length u.queue, ap time u.clock)
 

@@ -11,16 +11,16 @@ use Rattle.machine.specs.declared.answers.Answer.TheVariants.{Configured, Arrive
 use Rattle.machine.specs.declared.answers.Arrival.{Arrival}
 use Rattle.machine.specs.declared.calls.Call.{Call}
 use Rattle.machine.specs.declared.calls.Call.TheVariants.{Configure, Step, Work, Fetch, Finish}
-use Rattle.machine.specs.declared.calls.RawSettings.{RawSettings}
+use Rattle.machine.specs.Settings.{Settings}
 use Rattle.machine.specs.declared.refusals.Refusal.{Refusal}
 use Rattle.machine.specs.Standard.{standard, standard_numbers}
 use Rattle.machine.specs.Machine.{fresh, call}
 use Rattle.machine.specs.Numbers.{holds, without}
-use Rattle.machine.specs.State.{Core, State, configured, out_of}
-use Rattle.machine.specs.State.{put_up}
+use Rattle.machine.specs.State.{Core, State, configured, out_of, put_up}
 use Rattle.policy.specs.Batches.{Batches, IsBounded}
 use Rattle.machine.proofs.Basics.{none_left}
-use Rattle.machine.proofs.Kept.{Kept, KeptState, keeps, call_keeps}
+use Rattle.machine.specs.Kept.{Kept, KeptState}
+use Rattle.machine.proofs.Kept.{keeps, call_keeps}
 use Rattle.machine.proofs.Moved.{Happens, happened}
 use Rattle.machine.proofs.OneCall.{out_by, numbered_by, outs, numbers, passes, same_bearers, below_period, arrive_done, work_done, fetch_done, fetch_none, finish_done}
 use Rattle.replay.specs.Fit.{Readable, FitCore, Fit}
@@ -61,10 +61,10 @@ accepted (Err q) h = cc h
 
 module _ (p : Batches) where
   -- what a configured receiver holds after a call
-  abbrev pub left_by : RawSettings → Core → Call → Core
+  abbrev pub left_by : Settings → Core → Call → Core
   left_by s x c = core (call p c (configured s x)).1
 
-  pub runs : (s : RawSettings) (x : Core) (c : Call) → (call p c (configured s x)).1 ≡ configured s (left_by s x c)
+  pub runs : (s : Settings) (x : Core) (c : Call) → (call p c (configured s x)).1 ≡ configured s (left_by s x c)
   unfolding call
   runs s x c = refl
 
@@ -101,10 +101,10 @@ module _ (p : Batches) {x : Core} {coming : List Captured} {first : ℕ} {task :
       FitCore p (left_by p standard x c) qs first u
   stays bounded l c a e qs u o n r =
       let h : Happens p (configured standard x) c (Ok a) (configured standard (left_by p standard x c)) = happened p c (configured standard x) e (runs p standard x c) in
-      let kept : Kept p standard _ = call_keeps p bounded (configured standard x) _ c (Ok a) f.kept h in
+      let kept : Kept p.greatest standard _ = call_keeps p bounded (configured standard x) _ c (Ok a) f.kept h in
       record {
         kept = kept;
-        elapsed = below_period p standard x _ f.elapsed (passes h) kept;
+        elapsed = below_period p.greatest standard x _ f.elapsed (passes h) kept;
         closed = omega (arith, (passes h).most);
         out = outs h ∙ o;
         few = omega (arith, n, numbers h);
@@ -208,7 +208,7 @@ pub start_fits : (p : Batches) → IsBounded p → (bs : List Bearer) (ps : List
 start_fits p bounded bs ps ready r l = (
   refl,
   record {
-    kept = subst (KeptState p) (ap (λ (d : Result Answer Refusal × State). d.1) ready) (keeps p bounded (Configure standard_numbers) (put_up bs) tt);
+    kept = subst (KeptState p.greatest) (ap (λ (d : Result Answer Refusal × State). d.1) ready) (keeps p bounded (Configure standard_numbers) (put_up bs) tt);
     elapsed = omega arith;
     closed = omega arith;
     out = refl;

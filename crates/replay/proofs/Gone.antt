@@ -4,7 +4,7 @@ use Rattle.std.specs.List.{list_any, sum_by}
 use Rattle.std.proofs.lemmas.Bool.Decides.{eqb_tells, leb_tells}
 use Rattle.std.proofs.lemmas.Grind.{common_steps}
 use Rattle.std.proofs.lemmas.List.Sums.{sum_by-cons}
-use Rattle.board.specs.Bearers.{Bearer, any_in, any_in}
+use Rattle.board.specs.Bearers.{Bearer, any_in}
 use Rattle.machine.specs.Laws.{accounted}
 use Rattle.machine.specs.State.{Core}
 use Rattle.replay.specs.Stages.{holds_none}

@@ -5,7 +5,6 @@ pub mod Falls
 pub mod Fits
 pub mod Going
 pub mod Gone
-pub mod Laws
 pub mod Led
 pub mod Lent
 pub mod Numbered

@@ -13,8 +13,7 @@ use Rattle.machine.specs.declared.calls.Call.TheVariants.{Configure, Arrive}
 use Rattle.machine.specs.declared.refusals.Refusal.{Refusal}
 use Rattle.machine.specs.Standard.{standard, standard_numbers}
 use Rattle.machine.specs.Machine.{call, fresh}
-use Rattle.machine.specs.State.{State, configured}
-use Rattle.machine.specs.State.{put_up}
+use Rattle.machine.specs.State.{State, configured, put_up}
 use Rattle.policy.specs.Batches.{Batches, IsBounded}
 use Rattle.machine.specs.Trace.{Entry, trace}
 use Rattle.machine.proofs.Moved.{happened}

@@ -6,6 +6,7 @@ use Rattle.std.proofs.lemmas.Bool.{cases_lt, lt-ltb, le-ltb}
 use Rattle.std.proofs.lemmas.List.{length-append}
 use Rattle.board.specs.Bearers.{Bearer}
 use Rattle.capture.specs.declared.packets.Captured.{Captured}
+use Rattle.machine.specs.Calls.{report_of}
 use Rattle.machine.specs.declared.answers.Answer.{Answer}
 use Rattle.machine.specs.declared.answers.Answer.TheVariants.{Configured}
 use Rattle.machine.specs.declared.refusals.Refusal.{Refusal}
@@ -16,8 +17,7 @@ use Rattle.machine.specs.declared.calls.Call.TheVariants.{Configure}
 use Rattle.machine.specs.Standard.{standard, standard_numbers}
 use Rattle.machine.specs.Laws.{closed_in}
 use Rattle.machine.specs.Machine.{call, fresh}
-use Rattle.machine.specs.State.{State, configured}
-use Rattle.machine.specs.State.{put_up}
+use Rattle.machine.specs.State.{State, configured, put_up}
 use Rattle.policy.specs.Batches.{Batches, IsBounded}
 use Rattle.machine.specs.Trace.{end_of}
 use Rattle.replay.specs.declared.fates.Fallen.{Fallen}
@@ -26,7 +26,6 @@ use Rattle.replay.specs.Fates.{decided, fates, noted}
 use Rattle.replay.specs.Fit.{Fit, Readable}
 use Rattle.replay.specs.Runs.{entries, records}
 use Rattle.replay.specs.Stages.{Stage, after, closed, core, first_stamp, start, turn, Leads}
-use Rattle.replay.specs.Turns.{report}
 use Rattle.replay.proofs.Falls.{fall, falls, start_falls}
 use Rattle.replay.proofs.Fits.{start_fits, stays_fit}
 use Rattle.replay.proofs.Led.{leads_push}
@@ -96,14 +95,14 @@ module _ (p : Batches) (bs : List Bearer) (ps : List Captured) where
         ∙ ap (λ k. noted (decided c (call p c x.receiver).0) k (fates (length ps) (entries p bs d.calls))) (ap closed_in fit_after.0)
         ∙ ap (noted (decided c (call p c x.receiver).0) (closed y)) (sym d.fates_are))
 
-    noted_periods : noted_record 1000 (report (core y.receiver)) ds ≡ records (entries p bs (d.calls ++ c ∷ [])) (closed y)
+    noted_periods : noted_record 1000 (report_of (core y.receiver)) ds ≡ records (entries p bs (d.calls ++ c ∷ [])) (closed y)
     noted_periods = ⊎_elim
         (λ l. let a = grown.added l in
-        one_noted (report (core y.receiver)) ds 1000 a.0 a.1 (omega (arith, held, l)) (omega (arith, held, l, fit_after.1.closed)) ∙ a.2)
-        (λ l. no_room (report (core y.receiver)) ds 1000 (omega (arith, held, l)) ∙ grown.kept (omega (arith, l, grown.least)))
+        one_noted (report_of (core y.receiver)) ds 1000 a.0 a.1 (omega (arith, held, l)) (omega (arith, held, l, fit_after.1.closed)) ∙ a.2)
+        (λ l. no_room (report_of (core y.receiver)) ds 1000 (omega (arith, held, l)) ∙ grown.kept (omega (arith, l, grown.least)))
         (cases_lt (closed x) (closed y))
 
-    pub goes_on : Played (turns + 1) y (noted (decided c (call p c x.receiver).0) (closed y) fs) (noted_record 1000 (report (core y.receiver)) ds)
+    pub goes_on : Played (turns + 1) y (noted (decided c (call p c x.receiver).0) (closed y) fs) (noted_record 1000 (report_of (core y.receiver)) ds)
     goes_on = record {
       calls = d.calls ++ c ∷ [];
       leads = leads_push p (start bs ps) d.calls x c d.leads made;

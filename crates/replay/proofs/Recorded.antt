@@ -12,8 +12,7 @@ use Rattle.machine.specs.declared.refusals.Refusal.{Refusal}
 use Rattle.machine.specs.Standard.{standard, standard_numbers}
 use Rattle.machine.specs.Laws.{closed_in, offered_by, offered_in, LastRecorded}
 use Rattle.machine.specs.Machine.{call, fresh}
-use Rattle.machine.specs.State.{Core, State, configured}
-use Rattle.machine.specs.State.{put_up}
+use Rattle.machine.specs.State.{Core, State, configured, put_up}
 use Rattle.policy.specs.Batches.{Batches, IsBounded}
 use Rattle.machine.specs.Trace.{Entry, entry, trace, end_of}
 use Rattle.machine.proofs.Moved.{happened}

@@ -15,8 +15,7 @@ use Rattle.machine.specs.declared.calls.Call.TheVariants.{Configure, Step, Disca
 use Rattle.machine.specs.declared.refusals.Refusal.{Refusal}
 use Rattle.machine.specs.Standard.{standard, standard_numbers}
 use Rattle.machine.specs.Machine.{call, fresh}
-use Rattle.machine.specs.State.{State, configured}
-use Rattle.machine.specs.State.{put_up}
+use Rattle.machine.specs.State.{State, configured, put_up, unconfigured}
 use Rattle.policy.specs.Batches.{Batches, IsBounded}
 use Rattle.machine.specs.Trace.{Entry, trace, end_of}
 use Rattle.machine.specs.Ledger.{Ledger, Columns, nothing, told, accepted, stepped, progress_in, depths_of, ledger}
@@ -105,7 +104,7 @@ undecided_on_the_way n k one none d =
 
 -- a receiver that agrees with the ledger has given as many numbers
 numbered_next : (depths : List ℕ) (t : State) (l : Ledger) → TallyState depths t l → numbered_in t ≡ l.next
-numbered_next depths (put_up bs) l a = ap (λ (m : Ledger). m.next) (sym a.0)
+numbered_next depths (unconfigured u) l a = ap (λ (m : Ledger). m.next) (sym a.0)
 numbered_next depths (configured s x) l a = ap (λ (n : Counts). n.numbered) a.counts
 
 -- what is noted in the end stands in the ledger

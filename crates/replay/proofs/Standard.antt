@@ -6,14 +6,13 @@ use Rattle.machine.specs.declared.answers.Answer.TheVariants.{Configured}
 use Rattle.machine.specs.declared.calls.Call.TheVariants.{Configure}
 use Rattle.machine.specs.Standard.{standard_board, four, standard, standard_numbers}
 use Rattle.machine.specs.Machine.{call, fresh}
-use Rattle.machine.specs.State.{configured}
-use Rattle.machine.specs.State.{put_up}
+use Rattle.machine.specs.State.{configured, put_up}
 use Rattle.policy.specs.Batches.{Batches}
 use Rattle.ring.specs.Queue.{held}
 use Rattle.replay.specs.declared.answers.Tables.{Tables}
 use Rattle.replay.specs.declared.fates.Fallen.{Fallen}
 use Rattle.replay.specs.declared.runs.Outcome.{Outcome}
-use Rattle.replay.specs.Accounts.{Comes}
+use Rattle.replay.specs.Accounts.{IsOutcome}
 use Rattle.replay.specs.Answers.{Tabled, counted}
 use Rattle.replay.specs.Fates.{all_in_the_end}
 use Rattle.replay.specs.Runs.{outcomes}
@@ -29,7 +28,7 @@ pub standard_ready : {p : Batches} {bs : List Bearer} → p ≡ four → bs ≡ 
     call p (Configure standard_numbers) (put_up bs) ≡ (Ok Configured, configured standard (fresh bs))
 standard_ready e f = rw (e, f) standard_configured
 
-module _ {p : Batches} {bs : List Bearer} {ps : List Captured} {o : Outcome} (came : Comes p bs ps o) {fs : List Fallen}
+module _ {p : Batches} {bs : List Bearer} {ps : List Captured} {o : Outcome} (came : IsOutcome p bs ps o) {fs : List Fallen}
     (all : fs ≡ all_in_the_end o.report.counts.numbered o.report.closed 0 o.fates.items) where
   -- what became of the packets
   outcomes_are : fs ≡ outcomes p bs ps came.run
@@ -38,12 +37,12 @@ module _ {p : Batches} {bs : List Bearer} {ps : List Captured} {o : Outcome} (ca
   pub as_many : length fs ≡ length ps
   as_many = ap length all ∙ length-all _ _ 0 o.fates.items ∙ ap length came.fates_are ∙ length-fates (length ps) _
 
-pub tabled : {p : Batches} {bs : List Bearer} {ps : List Captured} {o : Outcome} → Comes p bs ps o → {fs : List Fallen} →
+pub tabled : {p : Batches} {bs : List Bearer} {ps : List Captured} {o : Outcome} → IsOutcome p bs ps o → {fs : List Fallen} →
     fs ≡ all_in_the_end o.report.counts.numbered o.report.closed 0 o.fates.items → {t : Tables} → p ≡ four → bs ≡ standard_board →
     t.figures ≡ record { packets = length ps; turns = o.turns; periods = o.report.closed; fates = counted fs } → t.packets.items ≡ packets_table ps fs →
     t.periods.items ≡ periods_table (held o.records) → Tabled (Ok ps) t
 tabled {bs = bs} {ps = ps} {o = o} came all e f g h i =
-    let c = subst (λ b. Comes four b ps o) f (subst (λ q. Comes q bs ps o) e came) in
+    let c = subst (λ b. IsOutcome four b ps o) f (subst (λ q. IsOutcome q bs ps o) e came) in
     record {
       captured = ps;
       means = refl;

@@ -11,7 +11,7 @@ use Rattle.replay.specs.declared.fates.Decision.{Decision}
 use Rattle.replay.specs.declared.stages.Turn.{Turn}
 use Rattle.replay.specs.declared.stages.Turn.TheVariants.{Made, Stop}
 use Rattle.replay.specs.Stages.{Task, Stage, arrival, closed, core, is_due, is_over, is_through, next, span, turn}
-use Rattle.replay.specs.Turns.{Makes, Playing, Turned, answer_to, policy_of}
+use Rattle.replay.specs.Turns.{Makes, Playing, Turned, answer_at, policy_of}
 
 -- the first rule that applies
 module _ (p : Batches) (x : Stage) where
@@ -55,15 +55,15 @@ some_tested f (Some a) e = refl
 some_tested f None e = cc e
 
 -- What a turn comes to, by what was done.
-module _ {P : Type 0} (quotas : P → ℕ → ℕ → ℕ) (greatest : ℕ) (x : Playing P) where
+module _ {P : Type 0} (meaning : P → Batches) (x : Playing P) where
   abbrev p : Batches
-  p = policy_of quotas greatest x
+  p = policy_of meaning x
 
   abbrev Comes : Turn → Playing P → Type 0
-  Comes = Turned quotas greatest x
+  Comes = Turned meaning x
 
   abbrev Does : Call → Option Decision → Playing P → Type 0
-  Does c = Makes quotas greatest c x
+  Does c = Makes meaning c x
 
   -- a call that speaks of a packet, if there is one
   made : {A : Type 0} (c : A → Call) (o : Option A) {d : Option Decision} {y : Playing P} → is_some o ≡ true → turn p x.stage ≡ option_map c o →
@@ -86,10 +86,10 @@ module _ {P : Type 0} (quotas : P → ℕ → ℕ → ℕ) (greatest : ℕ) (x :
       finished d y e m = made (λ (t : Task). Finish t.number) x.stage.task (some_tested _ x.stage.task e) (through p x.stage going early e) m
 
       module _ (none_through : is_through x.stage ≡ false) where
-        pub stepped : (d : Option Decision) (y : Playing P) → is_ok (answer_to quotas greatest Step x) ≡ true → Does Step d y → Comes (Made d) y
+        pub stepped : (d : Option Decision) (y : Playing P) → is_ok (answer_at meaning Step x) ≡ true → Does Step d y → Comes (Made d) y
         stepped d y e m = (Step, steps p x.stage going early none_through e, m)
 
-        module _ (refused : is_ok (answer_to quotas greatest Step x) ≡ false) where
+        module _ (refused : is_ok (answer_at meaning Step x) ≡ false) where
           pub worked : (y : Playing P) → is_some x.stage.task ≡ true → IfSome x.stage.task (λ t. Does (Work (min t.to_go (span x.stage))) None y) →
               Comes (Made None) y
           worked y e m =
@@ -97,11 +97,11 @@ module _ {P : Type 0} (quotas : P → ℕ → ℕ → ℕ) (greatest : ℕ) (x :
 
           -- the application has no packet, so that work on one leaves w as it was
           module _ (idle : is_some x.stage.task ≡ false) {w : Playing P} (unworked : w ≡ x) where
-            pub fetched : (y : Playing P) → any_in (core w.stage.receiver).queue ≡ true → Makes quotas greatest Fetch w None y → Comes (Made None) y
+            pub fetched : (y : Playing P) → any_in (core w.stage.receiver).queue ≡ true → Makes meaning Fetch w None y → Comes (Made None) y
             fetched y h m = (
               Fetch,
-              fetches p x.stage going early none_through refused put_up (subst (λ (v : Playing P). any_in (core v.stage.receiver).queue ≡ true) unworked h),
-              subst (λ (v : Playing P). Makes quotas greatest Fetch v None y) unworked m,
+              fetches p x.stage going early none_through refused idle (subst (λ (v : Playing P). any_in (core v.stage.receiver).queue ≡ true) unworked h),
+              subst (λ (v : Playing P). Makes meaning Fetch v None y) unworked m,
             )
 
             -- nor is there one to fetch, so that a fetch leaves v as it was
@@ -113,13 +113,13 @@ module _ {P : Type 0} (quotas : P → ℕ → ℕ → ℕ) (greatest : ℕ) (x :
               none_queued = subst (λ (v : Playing P). any_in (core v.stage.receiver).queue ≡ false) unworked empty
 
               pub stopped_over : is_over v.stage ≡ true → Comes Stop v
-              stopped_over h = (over p x.stage going early none_through refused put_up none_queued (subst (λ (u : Playing P). is_over u.stage ≡ true) same h), same)
+              stopped_over h = (over p x.stage going early none_through refused idle none_queued (subst (λ (u : Playing P). is_over u.stage ≡ true) same h), same)
 
-              pub waited : (y : Playing P) → is_over v.stage ≡ false → Makes quotas greatest (Work (span v.stage)) v None y → Comes (Made None) y
+              pub waited : (y : Playing P) → is_over v.stage ≡ false → Makes meaning (Work (span v.stage)) v None y → Comes (Made None) y
               waited y h m = (
                 Work (span x.stage),
-                waits p x.stage going early none_through refused put_up none_queued (subst (λ (u : Playing P). is_over u.stage ≡ false) same h),
-                subst (λ (u : Playing P). Makes quotas greatest (Work (span u.stage)) u None y) same m,
+                waits p x.stage going early none_through refused idle none_queued (subst (λ (u : Playing P). is_over u.stage ≡ false) same h),
+                subst (λ (u : Playing P). Makes meaning (Work (span u.stage)) u None y) same m,
               )
 
 pub ruleset turning = (stops_ended, arrived, finished, stepped)

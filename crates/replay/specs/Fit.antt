@@ -6,7 +6,7 @@ use Rattle.capture.specs.declared.packets.Captured.{Captured}
 use Rattle.machine.specs.Standard.{standard}
 use Rattle.machine.specs.State.{Core, configured}
 use Rattle.policy.specs.Batches.{Batches}
-use Rattle.machine.proofs.Kept.{Kept}
+use Rattle.machine.specs.Kept.{Kept}
 use Rattle.replay.specs.Stages.{Task, Stage, core}
 use Rattle.replay.specs.Turns.{Playing, policy_of}
 
@@ -19,7 +19,7 @@ pub record Readable (n first : ℕ) (q : Captured) : Type 0 where
 
 -- of what the receiver holds, the packets still to arrive, the first timestamp and the application's packet: no other packet is out
 pub record FitCore (p : Batches) (x : Core) (coming : List Captured) (first : ℕ) (task : Option Task) : Type 0 where
-  pub kept : Kept p standard x
+  pub kept : Kept p.greatest standard x
   pub elapsed : x.clock.elapsed < standard.period
   pub closed : x.clock.closed ≤ 1000
   pub out : x.out ≡ option_to_list (option_map (λ (t : Task). t.number) task)
@@ -31,5 +31,5 @@ abbrev pub Fit : Batches → Stage → Type 0
 Fit p x = (x.receiver ≡ configured standard (core x.receiver)) × FitCore p (core x.receiver) x.coming x.first x.task
 
 -- and so is a replay under way
-abbrev pub Playable : {P : Type 0} → (P → ℕ → ℕ → ℕ) → ℕ → Playing P → Type 0
-Playable quotas greatest x = Fit (policy_of quotas greatest x) x.stage
+abbrev pub Playable : {P : Type 0} → (P → Batches) → Playing P → Type 0
+Playable meaning x = Fit (policy_of meaning x) x.stage

@@ -3,7 +3,6 @@ pub mod Answers
 pub mod ByLedger
 pub mod Fates
 pub mod Fit
-pub mod Lawful
 pub mod Refusals
 pub mod Runs
 pub mod Stages

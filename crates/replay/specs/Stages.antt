@@ -2,7 +2,7 @@
 use Rattle.std.specs.Prelude.{◌≡◌, ℕ, ◌-◌, ◌+◌, ◌*◌, min, Bool, true, false, cond, not, ◌&&◌, List, [], ◌∷◌, drop, Some, None, Ok, Option, Result, is_ok, is_some, ◌==◌, nat_le}
 use Rattle.std.specs.List.{slice_get, list_any}
 use Rattle.std.specs.Option.{option_map, option_map_or}
-use Rattle.board.specs.Bearers.{Bearer, any_in, any_in}
+use Rattle.board.specs.Bearers.{Bearer, any_in}
 use Rattle.capture.specs.declared.packets.Captured.{Captured}
 pub use Rattle.capture.specs.Meaning.{first_stamp}
 use Rattle.machine.specs.declared.answers.Answer.{Answer}
@@ -12,8 +12,7 @@ use Rattle.machine.specs.declared.calls.Call.TheVariants.{Arrive, Step, Work, Fe
 use Rattle.machine.specs.declared.refusals.Refusal.{Refusal}
 use Rattle.machine.specs.Standard.{standard}
 use Rattle.machine.specs.Machine.{call, fresh}
-use Rattle.machine.specs.State.{Core, State, configured}
-use Rattle.machine.specs.State.{put_up}
+use Rattle.machine.specs.State.{Core, State, unconfigured, configured}
 use Rattle.policy.specs.Batches.{Batches}
 
 -- the application's packet: its number, and the cycles that are still to go
@@ -34,7 +33,7 @@ start bs ps = record { receiver = configured standard (fresh bs); coming = ps; f
 
 -- what a receiver holds. That of a replay is configured from the start on; of one that is not, what it would hold then
 abbrev pub core : State → Core
-core (put_up bs) = fresh bs
+core (unconfigured u) = fresh u.bearers
 core (configured s x) = x
 
 -- Time: the periods closed; and in cycles, now, and how far it is to the period's end.

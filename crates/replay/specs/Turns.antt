@@ -9,7 +9,7 @@ use Rattle.machine.specs.declared.refusals.Refusal.{Refusal}
 use Rattle.machine.specs.Machine.{call}
 use Rattle.machine.specs.State.{Core}
 use Rattle.policy.specs.Batches.{Batches}
-use Rattle.receiver.specs.Receivers.{Receiving, batches}
+use Rattle.receiver.specs.Receivers.{Receiving}
 use Rattle.replay.specs.declared.fates.Decision.{Decision}
 use Rattle.replay.specs.declared.stages.Task.{Task as HeldTask}
 use Rattle.replay.specs.declared.stages.Turn.{Turn}
@@ -26,22 +26,18 @@ pub record Playing (P : Type 0) : Type 0 where
   pub policy : P
   pub stage : Stage
 
--- what the receiver tells
-abbrev pub report : Core → Report
-report x = record { counts = x.counts; closed = x.clock.closed; last = x.clock.last }
-
--- by the quotas and the greatest batch that policies have
-module _ {P : Type 0} (quotas : P → ℕ → ℕ → ℕ) (greatest : ℕ) where
+-- by what policies mean
+module _ {P : Type 0} (meaning : P → Batches) where
   abbrev pub policy_of : Playing P → Batches
-  policy_of x = batches (quotas x.policy) greatest
+  policy_of x = meaning x.policy
 
   -- what the receiver answers to a call
-  abbrev pub answer_to : Call → Playing P → Result Answer Refusal
-  answer_to c x = (call (policy_of x) c x.stage.receiver).0
+  abbrev pub answer_at : Call → Playing P → Result Answer Refusal
+  answer_at c x = (call (policy_of x) c x.stage.receiver).0
 
   -- a turn with a call leaves y, and decides what the call decides
   abbrev pub Makes : Call → Playing P → Option Decision → Playing P → Type 0
-  Makes c x d y = (d ≡ decided c (answer_to c x)) × (y ≡ record x { stage = after (policy_of x) c x.stage })
+  Makes c x d y = (d ≡ decided c (answer_at c x)) × (y ≡ record x { stage = after (policy_of x) c x.stage })
 
   -- the stop leaves all as it was
   abbrev pub Turned : Playing P → Turn → Playing P → Type 0

@@ -5,7 +5,7 @@ ghost use Rattle.machine.specs.Standard.{standard_board, four};
 ghost use Rattle.replay.specs.Answers.{Declines, EveryRun, Refuses, Replays, Tabled};
 ghost use Rattle.replay.specs.ByLedger.{RowsByLedger};
 ghost use Rattle.replay.specs.Fit.{Readable};
-ghost use Rattle.replay.specs.Lawful.{Lawful};
+ghost use Rattle.machine.specs.Laws.{Lawful};
 ghost use Rattle.replay.specs.Runs.{AllAccepted, OneRun, entries};
 ghost use Rattle.replay.specs.Stages.{first_stamp};
 
@@ -15,21 +15,10 @@ use crate::refusals::ReplayError;
 use crate::runs::run;
 use crate::stages::MOST_PERIODS;
 use crate::texts::{packets_table, periods_table};
-use board::{MailboxBearer, Packet, Pair, RingBearer};
 use capture::{Captured, ReadError, read};
 use machine::Period;
-use policy::Fixed;
+use standard::{BEARERS, Slots, board, policy};
 use std::alloc::{AllocError, Global};
-
-/// How many bearers the replay's board shows.
-const SHOWN: usize = 3;
-
-/// What stands in a slot in which no packet has been.
-const BLANK: Packet = Packet {
-    number: 0,
-    length: 0,
-    tag: 0,
-};
 
 /// What stands in a slot in which no record has been.
 const NO_PERIOD: Period = Period {
@@ -44,13 +33,9 @@ fn replayed(alloc: Global, packets: &[Captured]) -> Result<Tables, AllocError>
     requires few { length packets.now ≤ 1024 }
     ensures value { IfOk result (λ t. Tabled (Ok packets.now) t) }
 {
-    let (mut first, mut third) = ([BLANK; 8], [BLANK; 16]);
-    let board = Pair(
-        RingBearer::new(&mut first),
-        Pair(MailboxBearer::new(4), RingBearer::new(&mut third)),
-    );
-    let mut slots = [NO_PERIOD; MOST_PERIODS];
-    let outcome = run(alloc, board, Fixed::new(4), packets, &mut slots)?;
+    let mut slots = Slots::EMPTY;
+    let mut records = [NO_PERIOD; MOST_PERIODS];
+    let outcome = run(alloc, board(&mut slots), policy(), packets, &mut records)?;
     let outcomes = in_the_end(alloc, outcome.report, &outcome.fates)?;
     Ok(Tables {
         figures: Figures {
@@ -70,7 +55,7 @@ pub fn tables(alloc: Global, bytes: &[u8]) -> Result<Tables, ReadError>
     ensures value { IfOk result (λ t. Tabled (meaning 3 bytes.now) t) }
     ensures refused { IfErr result (λ e. Refuses (meaning 3 bytes.now) e) }
 {
-    let packets = read(alloc, bytes, SHOWN)?;
+    let packets = read(alloc, bytes, BEARERS)?;
     replayed(alloc, &packets).map_err(|_| ReadError::Memory)
 }
 

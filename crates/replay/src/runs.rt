@@ -4,32 +4,22 @@ ghost use Rattle.machine.specs.declared.answers.Answer.TheVariants.{Configured};
 ghost use Rattle.machine.specs.declared.calls.Call.TheVariants.{Configure};
 ghost use Rattle.machine.specs.Standard.{standard, standard_numbers};
 ghost use Rattle.machine.specs.Machine.{call, fresh};
-ghost use Rattle.machine.specs.State.{configured};
-ghost use Rattle.machine.specs.State.{put_up};
-ghost use Rattle.receiver.specs.Receivers.{batches};
-ghost use Rattle.replay.specs.Accounts.{Comes};
+ghost use Rattle.machine.specs.State.{configured, put_up};
+ghost use Rattle.replay.specs.Accounts.{IsOutcome};
 ghost use Rattle.replay.specs.Fit.{Readable};
 ghost use Rattle.replay.specs.Stages.{first_stamp};
 
 use crate::accounts::{Records, note, record};
 use crate::fates::Fallen;
-use crate::stages::{PERIOD, Stage, Turn};
+use crate::stages::{Stage, Turn};
 use board::Board;
 use capture::Captured;
-use machine::{Period, RawSettings, Report};
+use machine::{Period, Report};
 use policy::Policy;
 use receiver::Receiver;
 use ring::Ring;
+use standard::SETTINGS;
 use std::alloc::{AllocError, Global};
-
-const STANDARD: RawSettings = RawSettings {
-    period: PERIOD,
-    limit: 32_000,
-    size: 32,
-    high: 24,
-    low: 8,
-    hold: 2,
-};
 
 /// What a replay came to.
 #[derive(Drop)]
@@ -54,12 +44,12 @@ pub(crate) fn run<'a, B: Board + Drop, P: Policy + Drop>(
     requires readable { AllByRecursion (Readable (length (B.bearers board)) (first_stamp packets.now)) packets.now }
     requires few { length packets.now ≤ 1024 }
     requires slots { length slots.old ≡ 1000 }
-    ensures value { IfOk result (λ o. Comes (P.meaning policy) (B.bearers board) packets.now o) }
+    ensures value { IfOk result (λ o. IsOutcome (P.meaning policy) (B.bearers board) packets.now o) }
 {
     let mut fates = vec![in alloc; None; packets.len()]?;
     let mut records = Ring::new(slots);
     let mut receiver = Receiver::new(board, policy);
-    receiver.configure(STANDARD).unwrap();
+    receiver.configure(SETTINGS).unwrap();
     let mut stage = Stage::start(receiver, packets);
     let mut turns = 0;
     while let Turn::Made(decision) = stage.turn() {

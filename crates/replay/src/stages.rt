@@ -1,10 +1,11 @@
 ghost use Rattle.std.specs.Prelude.{◌≡◌, ◌<◌, false, None, IfSome, IfOk, OnOk, OnErr, ◌≢◌, is_some, is_ok, min};
 ghost use Rattle.std.specs.Option.{option_map};
+ghost use Rattle.machine.specs.Calls.{report_of};
 ghost use Rattle.machine.specs.declared.calls.Call.TheVariants.{Step, Finish, Fetch, Work};
 ghost use Rattle.board.specs.Bearers.{any_in};
 ghost use Rattle.replay.specs.Fit.{Playable};
 ghost use Rattle.replay.specs.Stages.{closed, now, to_end, next, moment, span, is_due, is_through, is_over, first_stamp, arrival, core};
-ghost use Rattle.replay.specs.Turns.{Makes, Turned, answer_to, let_go, report};
+ghost use Rattle.replay.specs.Turns.{Makes, Turned, answer_at, let_go};
 
 use crate::fates::{Decision, Fate};
 use board::Board;
@@ -12,10 +13,8 @@ use capture::Captured;
 use machine::{Refusal, Report};
 use policy::Policy;
 use receiver::{Receipt, Receiver};
+use standard::PERIOD;
 use std::marker::Model;
-
-/// P of the replay's receiver.
-pub(crate) const PERIOD: u64 = 64_000;
 
 /// No more periods are closed.
 pub(crate) const MOST_PERIODS: usize = 1_000;
@@ -82,7 +81,7 @@ impl<'a, B: Board, P: Policy> Stage<'a, B, P> {
     /// What the receiver tells.
     pub(crate) fn tell(&self) -> Report
         requires fit { Playable P.meaning self.now }
-        ensures value { result ≡ report (core self.now.stage.receiver) }
+        ensures value { result ≡ report_of (core self.now.stage.receiver) }
     {
         self.receiver.tell()
     }
@@ -181,7 +180,7 @@ impl<'a, B: Board, P: Policy> Stage<'a, B, P> {
     /// Goes on with the polling, unless that is refused.
     #[tactic(auto, using(machine::proofs::OneCall::call_refused))]
     fn step(&mut self) -> Result<Option<Decision>, Refusal>
-        ensures value { is_ok result ≡ is_ok (answer_to P.meaning Step self.old) }
+        ensures value { is_ok result ≡ is_ok (answer_at P.meaning Step self.old) }
         ensures after { IfOk result (λ d. Makes P.meaning Step self.old d self.new) }
         ensures same { OnErr result (self.new ≡ self.old) }
     {
@@ -241,7 +240,7 @@ impl<'a, B: Board, P: Policy> Stage<'a, B, P> {
         requires open { closed self.old.stage < 1000 }
         requires due { is_due self.old.stage ≡ false }
         requires through { is_through self.old.stage ≡ false }
-        requires step { is_ok (answer_to P.meaning Step self.old) ≡ false }
+        requires step { is_ok (answer_at P.meaning Step self.old) ≡ false }
         ensures value { Turned P.meaning self.old result self.new }
     {
         if self.work_on() {

@@ -1,6 +1,5 @@
 use Rattle.std.proofs.Common.{◌≡◌, ◌≤◌, ◌++◌, drop, length, vec_len, vec_capacity, vec_items}
 use Rattle.machine.specs.State.{put_up}
-use Rattle.receiver.specs.Receivers.{batches}
 use Rattle.conduct.specs.Lists.{after_list, receipts_of, replies_to}
 use Rattle.conduct.proofs.lists.conduct.Given as goal
 

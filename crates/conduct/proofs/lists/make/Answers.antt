@@ -3,7 +3,6 @@ use Rattle.std.proofs.lemmas.List.{length-map}
 use Rattle.machine.specs.declared.answers.Answer.TheVariants.{Fetched}
 use Rattle.machine.specs.declared.calls.Call.TheVariants.{Fetch}
 use Rattle.machine.specs.State.{out_of}
-use Rattle.receiver.specs.Receivers.{batches}
 use Rattle.machine.proofs.Moved.{happened}
 use Rattle.machine.proofs.OneCall.{fetch_room}
 use Rattle.conduct.specs.Lists.{unspent}

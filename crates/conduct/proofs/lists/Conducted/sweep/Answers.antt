@@ -1,5 +1,4 @@
 use Rattle.std.proofs.Common.{◌≡◌, ◌++◌, [], ◌∷◌, rules}
-use Rattle.receiver.specs.Receivers.{batches}
 use Rattle.conduct.proofs.Sweeping.{ends_there, not_all_out}
 use Rattle.conduct.proofs.lists.Conducted.sweep.Given as given
 use Rattle.conduct.proofs.lists.Conducted.sweep.Goals as goal

@@ -1,5 +1,4 @@
 use Rattle.std.proofs.Common.{◌≡◌, reverse, vec_items, vec_len}
-use Rattle.receiver.specs.Receivers.{batches}
 use Rattle.conduct.specs.Sweeps.{swept}
 use Rattle.conduct.proofs.lists.Conducted.sweep.Given as goal
 

@@ -1,7 +1,7 @@
 use Rattle.std.proofs.Common.{rules, map, sym, ap, ◌∙◌, cond, Some, None}
 use Rattle.conduct.specs.Lists.{unspent}
 use Rattle.conduct.proofs.Places.{found, none_found, without_none}
-use Rattle.conduct.proofs.held.take.Goals as goal
+use Rattle.conduct.proofs.receipts.take.Goals as goal
 
 pub returns-in_err-at-clause-value : goal.returns-in_err-at-clause-value
 returns-in_err-at-clause-value c ns e =
