@@ -6,7 +6,7 @@ use Rattle.std.proofs.lemmas.Bool.{cond-true, cond-false, lt-ltb, le-ltb}
 use Rattle.board.specs.declared.packets.Packet.{Packet}
 use Rattle.board.specs.declared.mailboxes.Held.{Held}
 use Rattle.board.specs.Bearers.{any_room}
-use Rattle.board.specs.Line.{is_used, held_at, packet_of, line, advanced, Numbers, Mail, mail_room, mail_packets}
+use Rattle.board.specs.Mailbox.{is_used, held_at, packet_of, line, advanced, Numbers, Mail, mail_room, mail_packets}
 use Rattle.board.proofs.Slots.{length-line, line_none, line_put, line_first, line_advanced, none_free, held_within, held_none, numbers_put, numbers_advanced}
 
 -- it shows the whole of its line

@@ -13,7 +13,7 @@ use Rattle.std.proofs.lemmas.Bool.Decides.{nat_tests}
 use Rattle.board.specs.declared.packets.Packet.{Packet}
 use Rattle.board.specs.declared.mailboxes.Held.{Held}
 use Rattle.board.specs.Bearers.{blank}
-use Rattle.board.specs.Line.{is_used, has_place, held_at, packet_of, packet_at, line, up_from, advanced, Numbers}
+use Rattle.board.specs.Mailbox.{is_used, has_place, held_at, packet_of, packet_at, line, up_from, advanced, Numbers}
 
 pub length-line : (s : List (Option Held)) (n : ℕ) → length (line s n) ≡ n
 unfolding line

@@ -1,6 +1,6 @@
 pub mod Bearers
 pub mod Costs
-pub mod Line
+pub mod Mailbox
 pub mod Pairs
 pub mod Shown
 pub mod Signals

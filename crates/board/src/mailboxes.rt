@@ -1,7 +1,7 @@
 ghost use Rattle.std.specs.Prelude.{◌≡◌, false, not, min, [], map, position, ⊤};
 ghost use Rattle.std.proofs.Common.{rules};
 ghost use Rattle.std.proofs.lemmas.List.{length-take};
-ghost use Rattle.board.specs.Line.{is_used, has_place, held_at, advanced, mail_packets, mail_room};
+ghost use Rattle.board.specs.Mailbox.{is_used, has_place, held_at, advanced, mail_packets, mail_room};
 
 use crate::lines::Line;
 use crate::packets::Packet;
@@ -31,7 +31,7 @@ pub struct Mailbox {
 
 impl Model for Mailbox {
     ghost use Rattle.std.specs.Prelude.{◌≤◌};
-    ghost use Rattle.board.specs.Line.{Mail, Numbers, line};
+    ghost use Rattle.board.specs.Mailbox.{Mail, Numbers, line};
 
     ghost Value = { Mail };
 

@@ -25,7 +25,18 @@ impl Packet {
 pub const HIGHEST_CLASS_COST: u32 = 1_360;
 
 const CLASS_COSTS: [u32; 12] = [
-    420, 510, 590, 680, 760, 850, 930, 1020, 1100, 1190, 1270, HIGHEST_CLASS_COST,
+    420,
+    510,
+    590,
+    680,
+    760,
+    850,
+    930,
+    1020,
+    1100,
+    1190,
+    1270,
+    HIGHEST_CLASS_COST,
 ];
 
 /// The cycles that it costs to take in a packet of this length.

@@ -13,7 +13,7 @@ use Rattle.machine.specs.Trace.{Entry}
 use Rattle.machine.specs.Ledger.{Ledger, nothing, told, depths_of, ledger, counts_of, accepted}
 use Rattle.machine.specs.Laws.{Always, LedgerAgrees, Truly, TrueAnswers}
 use Rattle.machine.proofs.Moved.{Passed, Happens, refused, asked_unconfigured, configures, moved}
-use Rattle.machine.proofs.Runs.{made, throughout, each_call, if_configured}
+use Rattle.machine.proofs.Runs.{entry_of, throughout, each_call, if_configured}
 use Rattle.machine.proofs.Tally.{numbers_in, depth_of, TallyCore, move_tally, move_true, gate_tally}
 use Rattle.machine.proofs.Pushed.{ledger_push}
 use Rattle.machine.proofs.Basics.{none_left}
@@ -71,9 +71,9 @@ module _ (p : Batches) (bs : List Bearer) where
   starts_agreeing = (refl, refl)
 
   pub keeps_agreeing : (es : List Entry) (t u : State) (c : Call) (r : Result Answer Refusal) → Agreeing es t → Happens p t c r u →
-      Agreeing (es ++ made t c r u ∷ []) u
+      Agreeing (es ++ entry_of t c r u ∷ []) u
   keeps_agreeing es t u c r i h =
-      subst (TallyState (depths_of bs) u) (sym (ledger_push bs es (made t c r u))) (keeps_tally p (depths_of bs) t u c r (ledger bs es) i h)
+      subst (TallyState (depths_of bs) u) (sym (ledger_push bs es (entry_of t c r u))) (keeps_tally p (depths_of bs) t u c r (ledger bs es) i h)
 
 pub ledger_agrees : Always LedgerAgrees
 ledger_agrees p _ bs cs before after e =

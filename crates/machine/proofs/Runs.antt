@@ -11,8 +11,8 @@ use Rattle.machine.specs.Laws.{OnceConfigured, Always, RefusalsLeave}
 use Rattle.machine.proofs.Moved.{Happens, happens, refused}
 
 -- one call, and what it came to
-abbrev pub made : State → Call → Result Answer Refusal → State → Entry
-made t c r u = record { asked = c; answered = r; before = t; after = u }
+abbrev pub entry_of : State → Call → Result Answer Refusal → State → Entry
+entry_of t c r u = record { asked = c; answered = r; before = t; after = u }
 
 module _ (p : Batches) where
   -- a trace begins with what its first call comes to, and goes on from there
@@ -29,14 +29,14 @@ module _ (p : Batches) where
       (record { from = refl; comes = happens p c t; calls = cs; goes_on = cc })
 
   module _ (I : List Entry → State → Type 0)
-      (keep : (es : List Entry) (t u : State) (c : Call) (r : Result Answer Refusal) → I es t → Happens p t c r u → I (es ++ made t c r u ∷ []) u) where
+      (keep : (es : List Entry) (t u : State) (c : Call) (r : Result Answer Refusal) → I es t → Happens p t c r u → I (es ++ entry_of t c r u ∷ []) u) where
     -- I after the entries so far, and after the first part of what follows; and what follows then is a trace
     reached_from : (before after es : List Entry) (cs : List Call) (t : State) → I es t → trace p t cs ≡ before ++ after →
         I (es ++ before) (end_of t before) × (ds : List Call) × (trace p (end_of t before) ds ≡ after)
     reached_from [] after es cs t i h = (subst (λ (l : List Entry). I l t) (sym (append-nil es)) i, cs, h)
     reached_from (e ∷ before) after es cs t i h =
         let b = starts_with cs t e (before ++ after) h in
-        let j : I (es ++ e ∷ []) e.after = subst (λ (v : State). I (es ++ made v e.asked e.answered e.after ∷ []) e.after) (sym b.from) (keep es t e.after e.asked e.answered i b.comes) in
+        let j : I (es ++ e ∷ []) e.after = subst (λ (v : State). I (es ++ entry_of v e.asked e.answered e.after ∷ []) e.after) (sym b.from) (keep es t e.after e.asked e.answered i b.comes) in
         let k = reached_from before after (es ++ e ∷ []) b.calls e.after j b.goes_on in
         (subst (λ (l : List Entry). I l (end_of e.after before)) (append_assoc es (e ∷ []) before) k.0, k.1, k.2)
 

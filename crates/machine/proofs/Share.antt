@@ -23,7 +23,7 @@ use Rattle.machine.proofs.Basics.{on_changed, at_mapped}
 use Rattle.machine.proofs.Loads.{TidyState}
 use Rattle.machine.proofs.Tidy.{keeps_tidy}
 use Rattle.machine.proofs.Moved.{behind, Move, stored, signalled, begun, emptied, taken, rescheduled, completed, worked, Happens, refused, asked_unconfigured, configures, moved, told}
-use Rattle.machine.proofs.Runs.{made, at_end, if_configured, Came, each_call}
+use Rattle.machine.proofs.Runs.{entry_of, at_end, if_configured, Came, each_call}
 use Rattle.machine.proofs.Unmoved.{Unmoved, gate_unmoved, unmoved_bearer, armed_same}
 use Rattle.machine.proofs.Periods.{Booked, settled, runs_on, settles}
 use Rattle.machine.specs.declared.answers.Report.{Report}
@@ -49,8 +49,8 @@ offered_push : (j : ℕ) (es : List Entry) (e : Entry) →
 offered_push j es e = sum_by_push _ es e
 
 booked : (es : List Entry) (s : Settings) (x : Core) (c : Call) (r : Result Answer Refusal) (u : State) →
-    Booked (λ j. offered_in j es) x.clock (offered_by c r) (λ j. offered_in j (es ++ made (configured s x) c r u ∷ []))
-booked es s x c r u = record { each = λ j. offered_push j es (made (configured s x) c r u) }
+    Booked (λ j. offered_in j es) x.clock (offered_by c r) (λ j. offered_in j (es ++ entry_of (configured s x) c r u ∷ []))
+booked es s x c r u = record { each = λ j. offered_push j es (entry_of (configured s x) c r u) }
 
 still_none : (es : List Entry) (e : Entry) → offered_by e.asked e.answered ≡ 0 → ((j : ℕ) → offered_in j es ≡ 0) → (j : ℕ) → offered_in j (es ++ e ∷ []) ≡ 0
 still_none es e o none j = grind (arith, none j, offered_push j es e)
@@ -156,7 +156,7 @@ module _ (p : Batches) (start : List Bearer) where
   Fair es (configured s x) = FundedCore p.greatest start s (λ j. offered_in j es) x
 
   keeps_fair : IsBounded p → (es : List Entry) (t u : State) (c : Call) (r : Result Answer Refusal) →
-      TidyState t → Fair es t → Happens p t c r u → Fair (es ++ made t c r u ∷ []) u
+      TidyState t → Fair es t → Happens p t c r u → Fair (es ++ entry_of t c r u ∷ []) u
   keeps_fair bounded es _ _ _ _ t i (refused {t = unconfigured u}) = (i.0, still_none es _ refl i.1)
   keeps_fair bounded es _ _ _ _ t i asked_unconfigured = (i.0, still_none es _ refl i.1)
   keeps_fair bounded es _ _ _ _ t i (configures {u = u} {n = n} _ _ some) = fresh_funded p.greatest start (settings_from n) _ u.bearers i.0 some (still_none es _ refl i.1)
@@ -170,7 +170,7 @@ module _ (p : Batches) (bounded : IsBounded p) (bs : List Bearer) (cs : List Cal
   abbrev TidyFair : List Entry → State → Type 0
   TidyFair es t = TidyState t × Fair p bs es t
 
-  keeps_both : (es : List Entry) (t u : State) (c : Call) (r : Result Answer Refusal) → TidyFair es t → Happens p t c r u → TidyFair (es ++ made t c r u ∷ []) u
+  keeps_both : (es : List Entry) (t u : State) (c : Call) (r : Result Answer Refusal) → TidyFair es t → Happens p t c r u → TidyFair (es ++ entry_of t c r u ∷ []) u
   keeps_both es t u c r i h = (keeps_tidy p t u c r i.0 h, keeps_fair p bs bounded es t u c r i.0 i.1 h)
 
   starts_fair : TidyFair [] (put_up bs)

@@ -7,7 +7,7 @@ use Rattle.machine.specs.declared.answers.Progress.TheVariants.{Begun, Taken, Re
 use Rattle.machine.specs.declared.calls.Call.TheVariants.{Configure, Arrive, Step, Work, Fetch, Finish, Discard, Tell}
 use Rattle.machine.specs.State.{Core, State, configured, put_up}
 use Rattle.machine.specs.Machine.{no_counts, fresh}
-use Rattle.machine.specs.Examples.{Line, ◌answers◌, ◌refused◌at◌, shows, hold, closed, accepted, queued, used, armed}
+use Rattle.machine.specs.Examples.{ExampleLine, ◌answers◌, ◌refused◌at◌, shows, hold, closed, accepted, queued, used, armed}
 use Rattle.machine.specs.Standard.{ring, mailbox, standard_board, standard, standard_numbers}
 
 -- a packet of one octet
@@ -25,7 +25,7 @@ new = put_up standard_board
 abbrev pub just_configured : Core
 just_configured = fresh standard_board
 
-abbrev pub edges : List (State × List Line)
+abbrev pub edges : List (State × List ExampleLine)
 edges =
     -- K. Before it is configured, a receiver takes only configure and tell.
     (

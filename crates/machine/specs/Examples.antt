@@ -17,10 +17,10 @@ use Rattle.machine.specs.Machine.{no_counts, call}
 infix 70 ◌answers◌
 infix 70 ◌refused◌at◌
 -- a line of a run: a call and its answer, a call and its refusal's number and place, or a figure of what the receiver then holds
-pub data Line : Type 0 where
-  ◌answers◌ : Call → Answer → Line
-  ◌refused◌at◌ : Call → ℕ → ℕ → Line
-  shows : (Core → ℕ) → ℕ → Line
+pub data ExampleLine : Type 0 where
+  ◌answers◌ : Call → Answer → ExampleLine
+  ◌refused◌at◌ : Call → ℕ → ℕ → ExampleLine
+  shows : (Core → ℕ) → ℕ → ExampleLine
 
 -- the figures that lines show; an armed bearer's is 1
 abbrev pub used : Core → ℕ
@@ -40,11 +40,11 @@ shown figure (unconfigured u) = 0
 shown figure (configured s x) = figure x
 
 -- a call's line, and all lines, as the machine writes them
-abbrev pub line : Call → Result Answer Refusal → Line
+abbrev pub line : Call → Result Answer Refusal → ExampleLine
 line c (Ok a) = c answers a
 line c (Err r) = c refused number_of r at place_of r
 
-abbrev pub replayed : Batches → State → List Line → List Line
+abbrev pub replayed : Batches → State → List ExampleLine → List ExampleLine
 replayed p t [] = []
 replayed p t (c answers a ∷ ls) = line c (call p c t).0 ∷ replayed p (call p c t).1 ls
 replayed p t (c refused n at i ∷ ls) = line c (call p c t).0 ∷ replayed p (call p c t).1 ls
@@ -61,7 +61,7 @@ abbrev pub queued : ℕ → Answer
 queued n = Stepped (Taken n true)
 
 -- in the order of their letters, with P, N, S, H, L and T the settings
-abbrev pub examples : List (List Line)
+abbrev pub examples : List (List ExampleLine)
 examples =
     -- A. Beside the bearer's 200, lengths 1, 32, 33 and 384 cost 420, 420, 510 and 1,360.
     (Configure standard_numbers answers Configured

@@ -13,9 +13,9 @@ ghost use Rattle.receiver.specs.Held.{grant_of};
 ghost use Rattle.receiver.specs.Places.{StandsAt};
 ghost use Rattle.receiver.specs.Settings.{settings_of};
 
-use crate::grants::Grant;
 use crate::cores::{BEGIN_CHARGE, Core};
 use crate::ends::End;
+use crate::grants::Grant;
 use crate::settings::Settings;
 use board::{Board, Packet, class_cost};
 use machine::{Arrival, Progress, Refusal};

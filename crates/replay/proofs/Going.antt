@@ -11,7 +11,7 @@ use Rattle.machine.specs.Standard.{standard, standard_numbers}
 use Rattle.machine.specs.Machine.{call, fresh}
 use Rattle.machine.specs.State.{configured, put_up}
 use Rattle.policy.specs.Batches.{Batches, IsBounded}
-use Rattle.ring.specs.Queue.{held}
+use Rattle.ring.specs.Queue.{ring_elements}
 use Rattle.replay.specs.declared.fates.Decision.{Decision}
 use Rattle.replay.specs.declared.fates.Fallen.{Fallen}
 use Rattle.replay.specs.declared.runs.Outcome.{Outcome}
@@ -61,7 +61,7 @@ module _ {P : Type 0} {meaning : P → Batches} {bs : List Bearer} {ps : List Ca
       pub fit_stop : Playable meaning w
       fit_stop = rw t.1 g.played.fit
 
-      pub comes : {o : Outcome} → o.turns ≡ turns → o.report ≡ report_of (core w.stage.receiver) → o.fates.items ≡ fs → held o.records ≡ ds →
+      pub comes : {o : Outcome} → o.turns ≡ turns → o.report ≡ report_of (core w.stage.receiver) → o.fates.items ≡ fs → ring_elements o.records ≡ ds →
           IsOutcome (meaning q) bs ps o
       comes {o = o} n r f e = subst (λ k. IsOutcome (meaning k) bs ps o) g.policy (record {
         run = record { calls = g.played.calls; stop = v.stage; leads = g.played.leads; stops = t.0 };

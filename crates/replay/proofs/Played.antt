@@ -24,12 +24,12 @@ use Rattle.replay.specs.declared.fates.Fallen.{Fallen}
 use Rattle.replay.specs.Accounts.{noted_record}
 use Rattle.replay.specs.Fates.{decided, fates, noted}
 use Rattle.replay.specs.Fit.{Fit, Readable}
-use Rattle.replay.specs.Runs.{entries, records}
+use Rattle.replay.specs.Runs.{entries, period_records}
 use Rattle.replay.specs.Stages.{Stage, after, closed, core, first_stamp, start, turn, Leads}
 use Rattle.replay.proofs.Falls.{fall, falls, start_falls}
 use Rattle.replay.proofs.Fits.{start_fits, stays_fit}
 use Rattle.replay.proofs.Led.{leads_push}
-use Rattle.replay.proofs.Recorded.{Grown, grows, end_grow, fates_grow, fates_start, length-records}
+use Rattle.replay.proofs.Recorded.{Grown, grows, end_grow, fates_grow, fates_start, length-period_records}
 
 -- The record of a period that closed is noted once, where there is room for it.
 no_room : (r : Report) (ds : List Period) (room : ℕ) → r.closed ≤ length ds → noted_record room r ds ≡ ds
@@ -57,7 +57,7 @@ module _ (p : Batches) (bs : List Bearer) (ps : List Captured) where
     pub fit : Fit p x
     pub turns_are : turns ≡ length calls
     pub fates_are : fs ≡ fates (length ps) (entries p bs calls)
-    pub records_are : ds ≡ records (entries p bs calls) (closed x)
+    pub records_are : ds ≡ period_records (entries p bs calls) (closed x)
     pub falling : turns + fall x ≤ 320321024
 
   -- the start, of packets as a capture has them, on a receiver that can be ready
@@ -87,7 +87,7 @@ module _ (p : Batches) (bs : List Bearer) (ps : List Captured) where
         (ap (λ (t : State). (call p c t).1) (sym d.fit.0) ∙ fit_after.0) ds d.records_are
 
     held : length ds ≡ closed x
-    held = ap length d.records_are ∙ length-records (entries p bs d.calls) (closed x)
+    held = ap length d.records_are ∙ length-period_records (entries p bs d.calls) (closed x)
 
     noted_fates : noted (decided c (call p c x.receiver).0) (closed y) fs ≡ fates (length ps) (entries p bs (d.calls ++ c ∷ []))
     noted_fates =
@@ -95,7 +95,7 @@ module _ (p : Batches) (bs : List Bearer) (ps : List Captured) where
         ∙ ap (λ k. noted (decided c (call p c x.receiver).0) k (fates (length ps) (entries p bs d.calls))) (ap closed_in fit_after.0)
         ∙ ap (noted (decided c (call p c x.receiver).0) (closed y)) (sym d.fates_are))
 
-    noted_periods : noted_record 1000 (report_of (core y.receiver)) ds ≡ records (entries p bs (d.calls ++ c ∷ [])) (closed y)
+    noted_periods : noted_record 1000 (report_of (core y.receiver)) ds ≡ period_records (entries p bs (d.calls ++ c ∷ [])) (closed y)
     noted_periods = ⊎_elim
         (λ l. let a = grown.added l in
         one_noted (report_of (core y.receiver)) ds 1000 a.0 a.1 (omega (arith, held, l)) (omega (arith, held, l, fit_after.1.closed)) ∙ a.2)

@@ -19,7 +19,7 @@ use Rattle.machine.proofs.Moved.{happened}
 use Rattle.machine.proofs.OneCall.{Passes, passes, tell_done}
 use Rattle.machine.proofs.Share.{true_records}
 use Rattle.replay.specs.Fates.{decided, noted, fates}
-use Rattle.replay.specs.Runs.{record_of, records, entries}
+use Rattle.replay.specs.Runs.{record_of, period_records, entries}
 use Rattle.replay.proofs.Decided.{fates_push}
 
 -- one more entry, and where it ends
@@ -41,7 +41,7 @@ module _ (es : List Entry) (e : Entry) where
       cond_both (eqb (closed_in e.before) j) o 0 (λ n. n ≡ 0) (λ h. absurd (omega (arith, l, eqb-true (closed_in e.before) j h))) (λ _. refl) in
       omega (arith, none, sum_by_push (λ (d : Entry). cond (eqb (closed_in d.before) j) (offered_by d.asked d.answered) 0) es e)
 
-  records_kept : (k : ℕ) → k ≤ closed_in e.before → records (es ++ e ∷ []) k ≡ records es k
+  records_kept : (k : ℕ) → k ≤ closed_in e.before → period_records (es ++ e ∷ []) k ≡ period_records es k
   records_kept zero l = refl
   records_kept (suc k) l =
       let same = offered_kept k (omega arith) in
@@ -49,15 +49,15 @@ module _ (es : List Entry) (e : Entry) where
       cc
 
 -- a record for each closed period
-pub length-records : (es : List Entry) (k : ℕ) → length (records es k) ≡ k
-length-records es zero = refl
-length-records es (suc k) = omega (arith, length-append (records es k) (record_of es k ∷ []), length-records es k)
+pub length-period_records : (es : List Entry) (k : ℕ) → length (period_records es k) ≡ k
+length-period_records es zero = refl
+length-period_records es (suc k) = omega (arith, length-append (period_records es k) (record_of es k ∷ []), length-period_records es k)
 
 -- what becomes of the records rs where a call leads from x to y: es are then the entries
 pub record Grown (rs : List Period) (es : List Entry) (x y : Core) : Type 0 where
   pub least : x.clock.closed ≤ y.clock.closed
-  pub kept : y.clock.closed ≡ x.clock.closed → rs ≡ records es y.clock.closed
-  pub added : x.clock.closed < y.clock.closed → (d : Period) × (y.clock.last ≡ Some d) × (rs ++ d ∷ [] ≡ records es y.clock.closed)
+  pub kept : y.clock.closed ≡ x.clock.closed → rs ≡ period_records es y.clock.closed
+  pub added : x.clock.closed < y.clock.closed → (d : Period) × (y.clock.last ≡ Some d) × (rs ++ d ∷ [] ≡ period_records es y.clock.closed)
 
 same_period : (d f : Period) → d.offered ≡ f.offered → d.network ≡ f.network → d ≡ f
 same_period d f o n = ap (λ m. record d { offered = m }) o ∙ ap (λ m. record f { network = m }) n
@@ -102,23 +102,23 @@ module _ (p : Batches) (bs : List Bearer) where
 
     -- one more call
     pub grows : (cs : List Call) (c : Call) (x y : Core) → end_of (put_up bs) (entries p bs cs) ≡ configured standard x →
-        (call p c (configured standard x)).1 ≡ configured standard y → (rs : List Period) → rs ≡ records (entries p bs cs) x.clock.closed →
+        (call p c (configured standard x)).1 ≡ configured standard y → (rs : List Period) → rs ≡ period_records (entries p bs cs) x.clock.closed →
         Grown rs (entries p bs (cs ++ c ∷ [])) x y
     grows cs c x y e f rs h =
         let t : State = configured standard x in
         let k : ℕ = x.clock.closed in
         let es : List Entry = entries p bs (cs ++ c ∷ []) in
-        let before : rs ≡ records es k =
-        h ∙ sym (ap (λ ds. records ds k) (entries_push cs t e c) ∙ records_kept (entries p bs cs) (entry p t c) k (omega arith)) in
+        let before : rs ≡ period_records es k =
+        h ∙ sym (ap (λ ds. period_records ds k) (entries_push cs t e c) ∙ records_kept (entries p bs cs) (entry p t c) k (omega arith)) in
         let passed : Passes standard x.clock y.clock = passes (happened p c t refl f) in
         let last = last_recorded (cs ++ c ∷ []) y (end_grow cs t e c ∙ f) in
         record {
           least = passed.least;
-          kept = λ same. before ∙ ap (records es) (sym same);
+          kept = λ same. before ∙ ap (period_records es) (sym same);
           added = λ more.
               let one : y.clock.closed ≡ suc k = omega (arith, more, passed.most) in (
                 record_of es k,
                 last_record es k y.clock.closed y.clock.last last (omega (arith, one)),
-                ap (λ ds. ds ++ record_of es k ∷ []) before ∙ ap (records es) (sym one),
+                ap (λ ds. ds ++ record_of es k ∷ []) before ∙ ap (period_records es) (sym one),
               );
         }

@@ -8,7 +8,7 @@ use Rattle.machine.specs.Standard.{standard_board, four, standard, standard_numb
 use Rattle.machine.specs.Machine.{call, fresh}
 use Rattle.machine.specs.State.{configured, put_up}
 use Rattle.policy.specs.Batches.{Batches}
-use Rattle.ring.specs.Queue.{held}
+use Rattle.ring.specs.Queue.{ring_elements}
 use Rattle.replay.specs.declared.answers.Tables.{Tables}
 use Rattle.replay.specs.declared.fates.Fallen.{Fallen}
 use Rattle.replay.specs.declared.runs.Outcome.{Outcome}
@@ -40,7 +40,7 @@ module _ {p : Batches} {bs : List Bearer} {ps : List Captured} {o : Outcome} (ca
 pub tabled : {p : Batches} {bs : List Bearer} {ps : List Captured} {o : Outcome} → IsOutcome p bs ps o → {fs : List Fallen} →
     fs ≡ all_in_the_end o.report.counts.numbered o.report.closed 0 o.fates.items → {t : Tables} → p ≡ four → bs ≡ standard_board →
     t.figures ≡ record { packets = length ps; turns = o.turns; periods = o.report.closed; fates = counted fs } → t.packets.items ≡ packets_table ps fs →
-    t.periods.items ≡ periods_table (held o.records) → Tabled (Ok ps) t
+    t.periods.items ≡ periods_table (ring_elements o.records) → Tabled (Ok ps) t
 tabled {bs = bs} {ps = ps} {o = o} came all e f g h i =
     let c = subst (λ b. IsOutcome four b ps o) f (subst (λ q. IsOutcome q bs ps o) e came) in
     record {

@@ -7,7 +7,7 @@ use Rattle.machine.specs.Calls.{report_of}
 use Rattle.machine.specs.declared.answers.Period.{Period}
 use Rattle.machine.specs.declared.answers.Report.{Report}
 use Rattle.policy.specs.Batches.{Batches}
-use Rattle.ring.specs.Queue.{held}
+use Rattle.ring.specs.Queue.{ring_elements}
 use Rattle.replay.specs.declared.runs.Outcome.{Outcome}
 use Rattle.replay.specs.Fates.{fates}
 use Rattle.replay.specs.Runs.{Run, entries, periods}
@@ -23,4 +23,4 @@ pub record IsOutcome (p : Batches) (bs : List Bearer) (ps : List Captured) (o : 
   pub turns : o.turns ≡ length run.calls
   pub report_is : o.report ≡ report_of (core run.stop.receiver)
   pub fates_are : o.fates.items ≡ fates (length ps) (entries p bs run.calls)
-  pub records_are : held o.records ≡ periods p bs ps run
+  pub records_are : ring_elements o.records ≡ periods p bs ps run

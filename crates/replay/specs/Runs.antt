@@ -19,9 +19,9 @@ abbrev pub record_of : List Entry → ℕ → Period
 record_of es k = record { offered = offered_in k es; network = standard.period - offered_in k es }
 
 -- the records of the first k periods
-abbrev pub records : List Entry → ℕ → List Period
-records es zero = []
-records es (suc k) = records es k ++ record_of es k ∷ []
+abbrev pub period_records : List Entry → ℕ → List Period
+period_records es zero = []
+period_records es (suc k) = period_records es k ++ record_of es k ∷ []
 
 -- under a policy, over a board
 module _ (p : Batches) (bs : List Bearer) where
@@ -51,4 +51,4 @@ module _ (p : Batches) (bs : List Bearer) where
 
   -- the record of each closed period
   abbrev pub periods : (ps : List Captured) → Run ps → List Period
-  periods ps r = records (entries r.calls) (closed r.stop)
+  periods ps r = period_records (entries r.calls) (closed r.stop)

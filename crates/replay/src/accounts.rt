@@ -1,5 +1,5 @@
 ghost use Rattle.std.specs.Prelude.{◌≡◌, IfOk};
-ghost use Rattle.ring.specs.Queue.{held, places};
+ghost use Rattle.ring.specs.Queue.{ring_elements, ring_capacity};
 ghost use Rattle.replay.specs.Accounts.{noted_record};
 ghost use Rattle.replay.specs.Fates.{noted, in_the_end, all_in_the_end};
 
@@ -26,8 +26,8 @@ pub(crate) fn note(fates: &mut Vec<Option<Fallen>>, decision: Option<Decision>, 
 
 /// Notes the last closed period, if it is not noted yet.
 pub(crate) fn record(records: &mut Records<'_>, report: Report)
-    ensures after { held records.new ≡ noted_record (places records.old) report (held records.old) }
-    ensures room { places records.new ≡ places records.old }
+    ensures after { ring_elements records.new ≡ noted_record (ring_capacity records.old) report (ring_elements records.old) }
+    ensures room { ring_capacity records.new ≡ ring_capacity records.old }
 {
     if let Some(period) = report.last
         && records.len() < report.closed as usize

@@ -1,5 +1,5 @@
 ghost use Rattle.std.specs.Prelude.{◌≡◌, length, IfOk};
-ghost use Rattle.ring.specs.Queue.{held};
+ghost use Rattle.ring.specs.Queue.{ring_elements};
 ghost use Rattle.replay.specs.Tables.{word_of, packet_row, packets_table, period_row, periods_table};
 
 use crate::accounts::Records;
@@ -74,7 +74,7 @@ fn period_row(index: usize, period: Period) -> [Field; 3]
 
 /// The table of the closed periods.
 pub(crate) fn periods_table(alloc: Global, records: &Records<'_>) -> Result<Vec<u8>, AllocError>
-    ensures value { IfOk result (λ text. text.items ≡ periods_table (held records.now)) }
+    ensures value { IfOk result (λ text. text.items ≡ periods_table (ring_elements records.now)) }
 {
     let mut text = Vec::new(alloc);
     push_row(&mut text, &PERIOD_HEADING.map(Field::from))?;

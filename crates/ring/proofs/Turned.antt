@@ -8,7 +8,7 @@ use Rattle.std.proofs.lemmas.Bool.Decides.{nat_tests}
 use Rattle.std.proofs.lemmas.Bool.{cases_lt, cond-true, cond-false, lt-ltb, le-ltb}
 use Rattle.ring.specs.declared.cursors.Cursor.{Cursor}
 use Rattle.ring.specs.declared.rings.Ring.{Ring}
-use Rattle.ring.specs.Queue.{turned, turned_place, elements, any_free, usable, places, held}
+use Rattle.ring.specs.Queue.{turned, turned_place, elements, any_free, usable, ring_capacity, ring_elements}
 
 place_low : (c h i : ℕ) → i < c - h → turned_place c h i ≡ h + i
 place_low c h i a = cond-true _ _ _ (lt-ltb i (c - h) a)
@@ -99,5 +99,5 @@ module _ {X : Type 0} where
         ∙ sym (get_or-drop 1 (elements s q) i d))
 
   -- a ring's slots are the first of those lent
-  pub length-held : {most : ℕ} (r : Ring X most) → length (held r) ≡ min r.cursor.len (places r)
-  length-held {most} r = omega (arith, how_many (usable r) r.cursor, length-take most r.slots.now)
+  pub length-ring_elements : {most : ℕ} (r : Ring X most) → length (ring_elements r) ≡ min r.cursor.len (ring_capacity r)
+  length-ring_elements {most} r = omega (arith, how_many (usable r) r.cursor, length-take most r.slots.now)

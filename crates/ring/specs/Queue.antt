@@ -27,13 +27,13 @@ abbrev pub beyond : {X : Type 0} {most : ℕ} → Ring X most → List X
 beyond {X} {most} r = drop most r.slots.now
 
 -- how many slots it uses
-abbrev pub places : {X : Type 0} {most : ℕ} → Ring X most → ℕ
-places {X} {most} r = min most (length r.slots.now)
+abbrev pub ring_capacity : {X : Type 0} {most : ℕ} → Ring X most → ℕ
+ring_capacity {X} {most} r = min most (length r.slots.now)
 
 -- the elements that it holds, oldest first
-abbrev pub held : {X : Type 0} {most : ℕ} → Ring X most → List X
-held r = elements (usable r) r.cursor
+abbrev pub ring_elements : {X : Type 0} {most : ℕ} → Ring X most → List X
+ring_elements r = elements (usable r) r.cursor
 
 -- whether it has a slot free
 abbrev pub has_room : {X : Type 0} {most : ℕ} → Ring X most → Bool
-has_room r = nat_lt (length (held r)) (places r)
+has_room r = nat_lt (length (ring_elements r)) (ring_capacity r)

@@ -1,6 +1,6 @@
 ghost use Rattle.std.specs.Prelude.{◌≡◌, false, [], ◌∷◌, ◌++◌, length, drop, if◌then◌else◌, Ok, Err};
 ghost use Rattle.std.specs.List.{slice_get};
-ghost use Rattle.ring.specs.Queue.{usable, beyond, places, held, has_room};
+ghost use Rattle.ring.specs.Queue.{usable, beyond, ring_capacity, ring_elements, has_room};
 
 use crate::cursors::Cursor;
 
@@ -16,7 +16,7 @@ pub struct Ring<'a, T, const MOST: usize> {
 impl<'a, T: Copy, const MOST: usize> Ring<'a, T, MOST> {
     /// An empty ring over the slots.
     pub fn new(slots: &'a mut [T]) -> Ring<'a, T, MOST>
-        ensures value { held result ≡ [] }
+        ensures value { ring_elements result ≡ [] }
         ensures same { result.slots.now ≡ slots.old }
     {
         Ring {
@@ -27,7 +27,7 @@ impl<'a, T: Copy, const MOST: usize> Ring<'a, T, MOST> {
 
     /// How many elements it can hold.
     pub fn capacity(&self) -> usize
-        ensures value { result ≡ places self.now }
+        ensures value { result ≡ ring_capacity self.now }
     {
         MOST.min(self.slots.len())
     }
@@ -41,7 +41,7 @@ impl<'a, T: Copy, const MOST: usize> Ring<'a, T, MOST> {
 
     /// How many elements it holds.
     pub fn len(&self) -> usize
-        ensures value { result ≡ length (held self.now) }
+        ensures value { result ≡ length (ring_elements self.now) }
     {
         self.cursor.len(self.usable())
     }
@@ -49,9 +49,9 @@ impl<'a, T: Copy, const MOST: usize> Ring<'a, T, MOST> {
     /// Puts the element behind all others, or hands it back if every slot is used.
     pub fn push(&mut self, element: T) -> Result<(), T>
         ensures value { result ≡ (if has_room self.old then Ok tt else Err element) }
-        ensures after { held self.new ≡ (if has_room self.old then held self.old ++ element ∷ [] else held self.old) }
+        ensures after { ring_elements self.new ≡ (if has_room self.old then ring_elements self.old ++ element ∷ [] else ring_elements self.old) }
         ensures same { has_room self.old ≡ false → self.new ≡ self.old }
-        ensures room { places self.new ≡ places self.old }
+        ensures room { ring_capacity self.new ≡ ring_capacity self.old }
         ensures lender { self.new.slots.ghost_name ≡ self.old.slots.ghost_name }
         ensures beyond { beyond self.new ≡ beyond self.old }
     {
@@ -61,8 +61,8 @@ impl<'a, T: Copy, const MOST: usize> Ring<'a, T, MOST> {
 
     /// Takes out the oldest element.
     pub fn pop(&mut self) -> Option<T>
-        ensures value { result ≡ slice_get (held self.old) 0 }
-        ensures after { held self.new ≡ drop 1 (held self.old) }
+        ensures value { result ≡ slice_get (ring_elements self.old) 0 }
+        ensures after { ring_elements self.new ≡ drop 1 (ring_elements self.old) }
         ensures same { self.new.slots ≡ self.old.slots }
     {
         // A copy moves on while the slots are read: both lie behind `self`.
@@ -74,7 +74,7 @@ impl<'a, T: Copy, const MOST: usize> Ring<'a, T, MOST> {
 
     /// The `i`-th element, counted from the oldest.
     pub fn get(&self, i: usize) -> Option<T>
-        ensures value { result ≡ slice_get (held self.now) i }
+        ensures value { result ≡ slice_get (ring_elements self.now) i }
     {
         self.cursor.get(self.usable(), i)
     }

@@ -1,5 +1,5 @@
 use Rattle.std.proofs.Common.{rules}
-use Rattle.board.specs.Line.{advanced}
+use Rattle.board.specs.Mailbox.{advanced}
 use Rattle.std.proofs.lemmas.List.Edits.{map_over_more}
 use Rattle.board.proofs.mailboxes.advance.Goals as goal
 

@@ -1,5 +1,5 @@
 use Rattle.std.proofs.Common.{◌≡◌, ◌++◌, map, take, drop}
-use Rattle.board.specs.Line.{advanced}
+use Rattle.board.specs.Mailbox.{advanced}
 use Rattle.board.proofs.mailboxes.advance.Given as goal
 
 abbrev pub invariant-loop-slot : goal.invariant-loop-slot

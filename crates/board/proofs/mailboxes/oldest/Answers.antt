@@ -3,7 +3,7 @@ use Rattle.std.specs.Option.{option_flatten}
 use Rattle.std.proofs.lemmas.Iterator.{YieldsList-from_slice}
 use Rattle.std.proofs.lemmas.Iterator.Search.{find_from_yields_List}
 use borrow.Author.Tests.{tests}
-use Rattle.board.specs.Line.{has_place}
+use Rattle.board.specs.Mailbox.{has_place}
 use Rattle.board.proofs.mailboxes.oldest.Goals as goal
 
 pub returns : goal.returns

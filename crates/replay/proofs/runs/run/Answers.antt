@@ -1,6 +1,6 @@
 use Rattle.std.proofs.Common.{rules, refl, ap, ◌∙◌, vec_items}
 use Rattle.machine.specs.declared.answers.Report.{Report}
-use Rattle.ring.specs.Queue.{held}
+use Rattle.ring.specs.Queue.{ring_elements}
 use Rattle.replay.specs.Accounts.{noted_record}
 use Rattle.replay.specs.Fates.{noted}
 use Rattle.replay.proofs.Going.{starts_going, going_down, going_on, fit_next, fit_stop, comes}
@@ -26,8 +26,8 @@ pub loop-decision-preserved : goal.loop-decision-preserved
 loop-decision-preserved g c = record {
   going = going_on c.loop-decision.invariant.going c.in-Made.ensures.value
       (c.note.ensures.after ∙ ap (λ (r : Report). noted c.in-Made.decision r.closed (vec_items c.loop-decision.fates)) c.tell-report.ensures.value)
-      (c.record.ensures.after ∙ ap (λ n. noted_record n c.tell-report.result (held c.loop-decision.records)) c.loop-decision.invariant.room
-      ∙ ap (λ (r : Report). noted_record 1000 r (held c.loop-decision.records)) c.tell-report.ensures.value);
+      (c.record.ensures.after ∙ ap (λ n. noted_record n c.tell-report.result (ring_elements c.loop-decision.records)) c.loop-decision.invariant.room
+      ∙ ap (λ (r : Report). noted_record 1000 r (ring_elements c.loop-decision.records)) c.tell-report.ensures.value);
   room = search rules;
 }
 

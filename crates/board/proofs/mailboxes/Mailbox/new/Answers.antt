@@ -1,5 +1,5 @@
 use Rattle.std.proofs.Common.{ap, ◌∙◌, arith}
-use Rattle.board.specs.Line.{Mail}
+use Rattle.board.specs.Mailbox.{Mail}
 use Rattle.board.proofs.Slots.{line_none}
 use Rattle.board.proofs.mailboxes.Mailbox.new.Goals as goal
 

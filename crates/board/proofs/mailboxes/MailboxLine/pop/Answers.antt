@@ -1,5 +1,5 @@
 use Rattle.std.proofs.Common.{sym, ap, ◌∙◌, subst, ◌≤◌, ◌-◌}
-use Rattle.board.specs.Line.{Numbers, line, mail_packets}
+use Rattle.board.specs.Mailbox.{Numbers, line, mail_packets}
 use Rattle.board.proofs.Mails.{any_in, popped, first_shown, kept_popped, none_shown, none_popped}
 use Rattle.board.proofs.mailboxes.MailboxLine.pop.Goals as goal
 
