@@ -1,23 +1,9 @@
 use crate::*;
-use board::{Board, MailboxBearer, Packet, Pair, RingBearer};
+use board::{Board, MailboxBearer, Packet, Pair};
 use machine::{Answer, Arrival, Call, Progress, RawSettings, Refusal};
 use policy::{Fixed, Policy};
+use standard::{SETTINGS, Slots, board, policy};
 use std::process::Abort;
-
-const BLANK: Packet = Packet {
-    number: 0,
-    length: 0,
-    tag: 0,
-};
-
-const STANDARD: RawSettings = RawSettings {
-    period: 64_000,
-    limit: 32_000,
-    size: 32,
-    high: 24,
-    low: 8,
-    hold: 2,
-};
 
 const CONFIGURED: Reply = Reply::Accepted(Answer::Configured);
 
@@ -60,17 +46,13 @@ fn fetched(number: u32, length: u16) -> Reply {
 
 /// Makes the calls on a new standard receiver, and compares each reply, then the numbers that are held, which a sweep discards.
 fn replies(rt: &(impl Abort + AllocGlobal), lines: &[(Call, Reply)], held: &[u32]) {
-    let (mut first, mut third) = ([BLANK; 8], [BLANK; 16]);
-    let board = Pair(
-        RingBearer::new(&mut first),
-        Pair(MailboxBearer::new(4), RingBearer::new(&mut third)),
-    );
+    let mut slots = Slots::EMPTY;
     let calls: Vec<Call> = lines
         .iter()
         .map(|line| line.0)
         .collect(rt.alloc())
         .expect(rt, "memory");
-    let Ok(conducted) = conduct(rt.alloc(), board, Fixed::new(4), &calls) else {
+    let Ok(conducted) = conduct(rt.alloc(), board(&mut slots), policy(), &calls) else {
         panic!(rt; "no memory");
     };
     assert_eq!(rt; conducted.replies.len(), lines.len());
@@ -89,7 +71,7 @@ fn replies(rt: &(impl Abort + AllocGlobal), lines: &[(Call, Reply)], held: &[u32
 #[test]
 fn grant_on_an_emptied_bearer(rt: HostRuntime) {
     let lines = [
-        (Call::Configure(STANDARD), CONFIGURED),
+        (Call::Configure(SETTINGS), CONFIGURED),
         (arrive(1, 20), arrived(0, true)),
         (Call::Step, begun(1)),
         (Call::Step, queued(0)),
@@ -112,7 +94,7 @@ fn hold(rt: HostRuntime) {
         high: 2,
         low: 0,
         hold: 1,
-        ..STANDARD
+        ..SETTINGS
     };
     let lines = [
         (Call::Configure(settings), CONFIGURED),
@@ -135,7 +117,7 @@ fn hold(rt: HostRuntime) {
 fn limit(rt: HostRuntime) {
     let settings = RawSettings {
         limit: 200,
-        ..STANDARD
+        ..SETTINGS
     };
     let lines = [
         (Call::Configure(settings), CONFIGURED),
@@ -158,7 +140,7 @@ fn receipts(rt: HostRuntime) {
     let lines = [
         (Call::Finish(0), Reply::NoReceipt),
         (Call::Step, Reply::Refused(Refusal::NotConfigured)),
-        (Call::Configure(STANDARD), CONFIGURED),
+        (Call::Configure(SETTINGS), CONFIGURED),
         (arrive(0, 20), arrived(0, true)),
         (arrive(0, 33), arrived(1, true)),
         (arrive(0, 64), arrived(2, true)),

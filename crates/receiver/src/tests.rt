@@ -1,26 +1,15 @@
 use crate::*;
-use board::{MailboxBearer, Packet, Pair, RingBearer};
-use machine::{Arrival, Progress, RawSettings, Refusal};
+use board::{MailboxBearer, Packet};
+use machine::{Arrival, Progress, Refusal};
 use policy::{Backlog, Fixed};
+use standard::{SETTINGS, StandardBoard};
 use std::mem::size_of;
 use std::process::Abort;
-
-/// The board of the standard receiver.
-type StandardBoard<'a> = Pair<RingBearer<'a>, Pair<MailboxBearer, RingBearer<'a>>>;
-
-const STANDARD: RawSettings = RawSettings {
-    period: 64_000,
-    limit: 32_000,
-    size: 32,
-    high: 24,
-    low: 8,
-    hold: 2,
-};
 
 /// A configured receiver over one mailbox of 4.
 fn over_one_mailbox(rt: &impl Abort) -> Receiver<MailboxBearer, Backlog> {
     let mut receiver = Receiver::new(MailboxBearer::new(4), Backlog);
-    assert_eq!(rt; receiver.configure(STANDARD), Ok(()));
+    assert_eq!(rt; receiver.configure(SETTINGS), Ok(()));
     receiver
 }
 
