@@ -1,5 +1,5 @@
 ghost use Rattle.std.specs.Prelude.{◌≡◌, Result};
-ghost use Rattle.capture.specs.Savefile.{meaning};
+ghost use Rattle.capture.specs.Captures.{meaning};
 ghost use Rattle.machine.specs.Examples.{four, standard_board};
 ghost use Rattle.replay.specs.Answers.{EveryRun};
 ghost use Rattle.replay.specs.ByLedger.{RowsByLedger};
