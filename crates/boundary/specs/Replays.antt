@@ -1,6 +1,6 @@
 -- A replay's answer in numbers, and what a host finds in the memory that it lent.
 use Rattle.std.specs.Prelude.{◌≡◌, ℕ, List, Ok, Err, Result}
-use Rattle.capture.specs.Meaning.{Meaning}
+use Rattle.capture.specs.Captures.{Meaning}
 use Rattle.replay.specs.Answers.{Declines, Replays}
 use Rattle.replay.specs.Refusals.{number_of, place_of}
 use Rattle.replay.specs.declared.answers.Replayed.{Replayed}

@@ -1,9 +1,9 @@
 ghost use Rattle.std.specs.Prelude.{◌≡◌, Result};
-ghost use Rattle.capture.specs.Savefile.{meaning};
+ghost use Rattle.capture.specs.Captures.{meaning};
 ghost use Rattle.machine.specs.Standard.{standard_board, four};
 ghost use Rattle.replay.specs.Answers.{EveryRun};
 ghost use Rattle.replay.specs.ByLedger.{RowsByLedger};
-ghost use Rattle.replay.specs.Lawful.{Lawful};
+ghost use Rattle.machine.specs.Laws.{Lawful};
 ghost use Rattle.replay.specs.Runs.{AllAccepted, OneRun, entries};
 ghost use Rattle.boundary.specs.Replays.{Ends, figures_of, told};
 

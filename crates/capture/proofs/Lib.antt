@@ -1,2 +1,4 @@
-mod Rest
-mod ReadsBack
+pub mod Admission
+pub mod OneOn
+pub mod ReadsBack
+pub mod Rest

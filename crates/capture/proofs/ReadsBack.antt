@@ -1,23 +1,27 @@
--- A sound file reads back as what was recorded.
-use Rattle.std.proofs.Common.{◌≡◌, ℕ, ◌+◌, ◌^◌, ◌<◌, ◌≤◌, false, List, [], ◌∷◌, ◌++◌, map, length, get_or, drop, Some, None, Ok, Err, IfErr, Option, Result, Vec, All, sym, refl, ap, ◌∙◌, subst, arith}
+-- A file that keeps the rules reads back as the packets that were noted.
+use Rattle.std.proofs.Common.{◌≡◌, ℕ, ◌+◌, ◌^◌, ◌<◌, ◌≤◌, List, [], ◌∷◌, ◌++◌, map, length, get_or, drop, Some, None, Ok, Err, IfErr, Result, Vec, All, sym, refl, ap, ◌∙◌, subst, arith}
 use Rattle.std.specs.declared.alloc.Global.{Global}
-use Rattle.std.specs.List.{flat_map}
+use Rattle.std.specs.List.{flat_map, AllByRecursion}
 use Rattle.std.proofs.lemmas.List.{append_assoc, length-append, length-drop, get_or-drop, drop-drop, drop_at}
-use Rattle.std.proofs.lemmas.List.Elements.{All-head, All-tail}
+use Rattle.std.proofs.lemmas.List.Elements.{All-head, All-tail, recursion_from_All}
 use Rattle.std.proofs.Math.Seq.{drop-append_seam}
 use Rattle.std.proofs.lemmas.Bool.Decides.{nat_tests}
 use Rattle.capture.specs.declared.orders.ByteOrder.{ByteOrder}
 use Rattle.capture.specs.declared.orders.ByteOrder.TheVariants.{Big, Little}
 use Rattle.capture.specs.declared.packets.Captured.{Captured}
+use Rattle.capture.specs.declared.packets.Record.{Record}
 use Rattle.capture.specs.declared.refusals.ReadError.{ReadError}
 use Rattle.capture.specs.declared.refusals.ReadError.TheVariants.{Memory, Refused}
-use Rattle.capture.specs.Meaning.{Meaning, ahead}
+use Rattle.capture.specs.Answers.{IsAnswerTo}
+use Rattle.capture.specs.Captures.{Meaning, contents, reading_of, meaning, meaning_from, first_stamp}
+use Rattle.capture.specs.Contents.{Contents, contents_by}
+use Rattle.capture.specs.Limits.{IsAdmissible, start_limits, first_limits}
 use Rattle.capture.specs.Numbers.{byte, word}
 use Rattle.capture.specs.Savefile as savefile
-use Rattle.capture.specs.Savefile.{Reading, end, late, known, item, behind, rest, header, opened, begun, whole, meaning}
-use Rattle.capture.specs.Told.{Tells}
-use Rattle.capture.specs.Writing.{Noted, File, Fair, Sound, two, four, block, written, stamp, packet, recorded, origin}
-use Rattle.capture.proofs.Rest.{items_end, items_packet}
+use Rattle.capture.specs.Savefile.{Records, end, split_first, contents_from, header_order, records_in, contents_of}
+use Rattle.capture.specs.Writing.{Note, File, IsWritable, KeepsRules, two, four, note_bytes, file_bytes, packet, packets}
+use Rattle.capture.proofs.Admission.{packets_of, admits_all}
+use Rattle.capture.proofs.OneOn.{contents_from_next}
 
 -- What stands at j in bs, as `drop j bs`.
 module _ (bs : List ℕ) (j : ℕ) where
@@ -44,45 +48,54 @@ module _ (bs : List ℕ) (j : ℕ) where
   fits : (xs ys : List ℕ) → drop j bs ≡ xs ++ ys → 0 < length xs → j + length xs ≤ length bs
   fits xs ys e h = omega (arith, length-drop j bs, length-append xs ys, ap length e)
 
--- a timestamp less than a second after the first packet's is not late
-in_time : (o : Option ℕ) (t first : ℕ) → known o t ≡ Some first → t < first + 1000000 → late o t ≡ false
-in_time o t first e h = grind (arith, nat_tests)
+-- notes as the records that they are read as, from an offset on
+abbrev placed : ℕ → List Note → List Record
+placed at [] = []
+placed at (x ∷ xs) = record { at = at; packet = packet x } ∷ placed (at + 16 + (length x.others + 1)) xs
 
--- xs is what is left to read, where `first` is the first packet's timestamp
-record Left (first : ℕ) (r : Reading) (xs : List Noted) : Type 0 where
-  here : drop r.at r.bytes ≡ flat_map (block r.order) xs
+packets_placed : (at : ℕ) (xs : List Note) → packets_of (placed at xs) ≡ map packet xs
+packets_placed at [] = refl
+packets_placed at (x ∷ xs) = ap (λ ps. packet x ∷ ps) (packets_placed (at + 16 + (length x.others + 1)) xs)
+
+length-placed : (at : ℕ) (xs : List Note) → length (placed at xs) ≡ length xs
+length-placed at [] = refl
+length-placed at (x ∷ xs) = omega (arith, length-placed (at + 16 + (length x.others + 1)) xs)
+
+-- its numbers have 32 bits
+record Fits (x : Note) : Type 0 where
+  writable : IsWritable x
+  original : x.original ≤ 385
+
+-- xs is what is left to read
+record Left (r : Records) (xs : List Note) : Type 0 where
+  here : drop r.at r.bytes ≡ flat_map (note_bytes r.order) xs
   small : length r.bytes ≤ 65536
-  few : length xs ≤ r.room
-  since : known r.first (origin xs) ≡ Some first
-  fair : All (Fair r.shown first) xs
+  fits : AllByRecursion Fits xs
 
--- the record at the reading's place is x, and ys stands behind it
-record Stands (r : Reading) (x : Noted) (ys : List ℕ) : Type 0 where
+-- the first record is x, and ys stands behind it
+record Stands (r : Records) (x : Note) (ys : List ℕ) : Type 0 where
   seconds : savefile.seconds r ≡ x.seconds
   micros : savefile.micros r ≡ x.micros
-  captured : savefile.captured r ≡ length x.others + 1
-  original : savefile.original r ≡ x.original
+  captured : savefile.captured_length r ≡ length x.others + 1
+  original : savefile.original_length r ≡ x.original
   bearer : savefile.bearer r ≡ x.bearer
   within : end r ≤ length r.bytes
   next : drop (end r) r.bytes ≡ ys
 
-left_none : (r : Reading) (first : ℕ) → Left first r [] → item r ≡ Ok None
-left_none r first l =
+left_none : (r : Records) → Left r [] → split_first r ≡ Ok None
+left_none r l =
     let h : length r.bytes ≤ r.at = omega (arith, length-drop r.at r.bytes, ap length l.here) in
     grind (arith, nat_tests)
 
-module _ (r : Reading) (first : ℕ) (x : Noted) (xs : List Noted) (l : Left first r (x ∷ xs)) where
-  fair_first : Fair r.shown first x
-  fair_first = All-head (Fair r.shown first) x xs l.fair
-
-  stands : Stands r x (flat_map (block r.order) xs)
+module _ (r : Records) (x : Note) (xs : List Note) (l : Left r (x ∷ xs)) where
+  stands : Stands r x (flat_map (note_bytes r.order) xs)
   stands =
-      let fair = fair_first in
+      let here = l.fits.0 in
       let bs = r.bytes in
       let o = r.order in
       let i = r.at in
       let octets = x.bearer ∷ x.others in
-      let ys = flat_map (block o) xs in
+      let ys = flat_map (note_bytes o) xs in
       let e₀ = simp append_assoc at l.here in
       let e₄ = past_word bs i o x.seconds _ (i + 4) e₀ refl in
       let e₈ = past_word bs (i + 4) o x.micros _ (i + 8) e₄ (omega arith) in
@@ -91,8 +104,8 @@ module _ (r : Reading) (first : ℕ) (x : Noted) (xs : List Noted) (l : Left fir
       let f = fits bs (i + 16) octets ys e₁₆ (omega arith) in
       let c = word_at bs (i + 8) o (length x.others + 1) _ (omega arith) e₈ in
       record {
-        seconds = word_at bs i o _ _ fair.seconds e₀;
-        micros = word_at bs (i + 4) o _ _ fair.micros e₄;
+        seconds = word_at bs i o _ _ here.writable.seconds e₀;
+        micros = word_at bs (i + 4) o _ _ here.writable.micros e₄;
         captured = c;
         original = word_at bs (i + 12) o _ _ (omega arith) e₁₂;
         bearer = byte_at bs (i + 16) _ (i + 16) 0 e₁₆ (omega arith);
@@ -100,27 +113,30 @@ module _ (r : Reading) (first : ℕ) (x : Noted) (xs : List Noted) (l : Left fir
         next = past bs (i + 16) octets ys (end r) e₁₆ (omega arith);
       }
 
-  left_item : item r ≡ Ok (Some (packet x))
-  left_item =
+  abbrev behind : Records
+  behind = record r { at = r.at + 16 + (length x.others + 1) }
+
+  left_first : split_first r ≡ Ok (Some (record { at = r.at; packet = packet x }, behind))
+  left_first =
       let s = stands in
-      let fair = fair_first in
-      let t : late r.first (savefile.stamp r) ≡ false = rw (s.seconds, s.micros) (in_time r.first (stamp x) first l.since fair.early) in
       let p : savefile.packet r ≡ packet x = rw (s.seconds, s.micros, s.original, s.bearer) in
       grind (arith, nat_tests)
 
-  left_behind : Left first (behind r) xs
+  left_behind : Left behind xs
   left_behind =
       let s = stands in
-      record { here = s.next; small = l.small; few = omega arith; since = rw (s.seconds, s.micros, l.since); fair = All-tail (Fair r.shown first) x xs l.fair }
+      let e : end r ≡ r.at + 16 + (length x.others + 1) = omega (arith, s.captured) in
+      record { here = rw e at s.next; small = l.small; fits = l.fits.1 }
 
-rest_left : (xs : List Noted) (r : Reading) (first : ℕ) → Left first r xs → rest r ≡ Ok (map packet xs)
-rest_left [] r first l = items_end r.room r (left_none r first l)
-rest_left (x ∷ xs) r first l =
-    items_packet r.room r (packet x) refl (left_item r first x xs l)
-    ∙ ap (ahead (packet x ∷ [])) (rest_left xs (behind r) first (left_behind r first x xs l))
+contents_left : (r : Records) (xs : List Note) → Left r xs → contents_from r ≡ record { records = placed r.at xs; fault = None }
+contents_left r [] l = contents_from_next r ∙ ap (contents_by contents_from) (left_none r l)
+contents_left r (x ∷ xs) l =
+    contents_from_next r ∙ ap (contents_by contents_from) (left_first r x xs l)
+    ∙ ap (λ (c : Contents). contents_by (λ (_ : Records). c) (Ok (Some (record { at = r.at; packet = packet x }, r))))
+    (contents_left (behind r x xs l) xs (left_behind r x xs l))
 
 -- The header, in either byte order.
-header_read : (o : ByteOrder) (ys : List ℕ) → 16 ≤ length ys → header (four o 0xA1B2C3D4 ++ (two o 2 ++ (two o 4 ++ ys))) ≡ Some o
+header_read : (o : ByteOrder) (ys : List ℕ) → 16 ≤ length ys → header_order (four o 0xA1B2C3D4 ++ (two o 2 ++ (two o 4 ++ ys))) ≡ Some o
 header_read Big ys h = grind (arith, nat_tests)
 header_read Little ys h = grind (arith, nat_tests)
 
@@ -128,27 +144,50 @@ past_header : (o : ByteOrder) (us ys : List ℕ) → length us ≡ 16 → drop 2
 past_header Big us ys h = drop_at us ys 16 h
 past_header Little us ys h = drop_at us ys 16 h
 
-pub reads_back : (shown : ℕ) (f : File) → Sound shown f → meaning shown (written f) ≡ Ok (recorded f)
-reads_back shown f s =
-    let ys = flat_map (block f.order) f.records in
-    let h = header_read f.order (f.unread ++ ys) (omega (arith, length-append f.unread ys)) in
-    let o : opened shown (written f) ≡ begun shown (written f) (Some f.order) = grind (arith, nat_tests) in
-    ap whole o
-    ∙ rest_left f.records _ (origin f.records)
-    (record { here = past_header f.order f.unread ys s.header; small = s.small; few = s.few; since = refl; fair = s.fair })
+-- the lengths of what the rules let through have 32 bits
+all_fit : (shown first : ℕ) (xs : List Note) → All IsWritable xs → AllByRecursion (IsAdmissible shown first) (map packet xs) → AllByRecursion Fits xs
+all_fit shown first [] w a = tt
+all_fit shown first (x ∷ xs) w a =
+    let m = a.0.most in
+    (record { writable = All-head IsWritable x xs w; original = omega arith }, all_fit shown first xs (All-tail IsWritable x xs w) a.1)
 
--- an answer that tells of a refused capture is its refusal
-told_refused : (m : Meaning) (r : Result (Vec Captured Global) ReadError) → Tells m r → IfErr m (λ f. r ≡ Err (Refused f))
-told_refused (Ok ps) r t = tt
-told_refused (Err f) (Ok ps) t = cc t
-told_refused (Err f) (Err (Refused g)) t = cc t
-told_refused (Err f) (Err Memory) t = cc t
+module _ (shown : ℕ) (f : File) (k : KeepsRules shown f) where
+  admissible : AllByRecursion (IsAdmissible shown (first_stamp (packets f))) (packets f)
+  admissible = recursion_from_All (IsAdmissible shown (first_stamp (packets f))) (packets f) k.admissible
 
--- what `read` ensures of an answer that tells what the file means
-pub answers : (shown : ℕ) (bs : List ℕ) (r : Result (Vec Captured Global) ReadError) → Tells (meaning shown bs) r → record { value : Tells (meaning shown bs) r; refused : IfErr (meaning shown bs) (λ f. r ≡ Err (Refused f)); faithful : (f : File) → Sound shown f → bs ≡ written f → Tells (Ok (recorded f)) r }
+  file_contents : contents (file_bytes f) ≡ Ok (record { records = placed 24 f.notes; fault = None })
+  unfolding contents
+  file_contents =
+      let bs = file_bytes f in
+      let ys = flat_map (note_bytes f.order) f.notes in
+      let h = header_read f.order (f.unread ++ ys) (omega (arith, k.header, length-append f.unread ys)) in
+      let left = contents_left (record { bytes = bs; order = f.order; at = 24 }) f.notes
+      (record { here = past_header f.order f.unread ys k.header; small = k.small; fits = all_fit shown (first_stamp (packets f)) f.notes k.writable admissible }) in
+      ap (λ o. contents_of (records_in bs o)) h ∙ ap {B = Result Contents _} Ok left
+
+  pub reads_back : meaning shown (file_bytes f) ≡ Ok (packets f)
+  reads_back =
+      let l = start_limits shown in
+      let small : first_limits shown (file_bytes f) ≡ Ok l = grind (arith, nat_tests, k.small) in
+      let same = packets_placed 24 f.notes in
+      ap (λ l. meaning_from (reading_of l (contents (file_bytes f)))) small
+      ∙ ap (λ c. meaning_from (reading_of (Ok l) c)) file_contents
+      ∙ admits_all l (placed 24 f.notes) (omega (arith, k.few, length-placed 24 f.notes))
+      (subst (λ ps. AllByRecursion (IsAdmissible shown (first_stamp ps)) ps) (sym same) admissible)
+      ∙ ap {B = Meaning} Ok same
+
+-- an answer to a refused capture is its refusal
+answer_refused : (m : Meaning) (r : Result (Vec Captured Global) ReadError) → IsAnswerTo m r → IfErr m (λ f. r ≡ Err (Refused f))
+answer_refused (Ok ps) r t = tt
+answer_refused (Err f) (Ok ps) t = cc t
+answer_refused (Err f) (Err (Refused g)) t = cc t
+answer_refused (Err f) (Err Memory) t = cc t
+
+-- what `read` ensures of an answer to what the file means
+pub answers : (shown : ℕ) (bs : List ℕ) (r : Result (Vec Captured Global) ReadError) → IsAnswerTo (meaning shown bs) r → record { value : IsAnswerTo (meaning shown bs) r; refused : IfErr (meaning shown bs) (λ f. r ≡ Err (Refused f)); faithful : (f : File) → KeepsRules shown f → bs ≡ file_bytes f → IsAnswerTo (Ok (packets f)) r }
 answers shown bs r t =
     record {
       value = t;
-      refused = told_refused (meaning shown bs) r t;
-      faithful = λ f s e. subst (λ (m : Meaning). Tells m r) (ap (meaning shown) e ∙ reads_back shown f s) t;
+      refused = answer_refused (meaning shown bs) r t;
+      faithful = λ f k e. subst (λ (m : Meaning). IsAnswerTo m r) (ap (meaning shown) e ∙ reads_back shown f k) t;
     }

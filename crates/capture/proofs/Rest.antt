@@ -1,9 +1,11 @@
--- What the rest of a capture means, one record on.
-use Rattle.std.proofs.Common.{◌≡◌, ℕ, zero, suc, ◌-◌, ◌<◌, List, [], ◌∷◌, ◌++◌, Some, None, Ok, Err, IsOk, Option, sym, refl, ap, ◌∙◌, append_assoc, append-nil, arith}
+-- What is still to be read means, one packet on.
+use Rattle.std.proofs.Common.{◌≡◌, List, [], ◌∷◌, ◌++◌, Some, None, Ok, Err, IsOk, Option, Result, refl, sym, ap, ◌∙◌, append_assoc, append-nil}
+use Rattle.capture.specs.declared.limits.Limits.{Limits}
 use Rattle.capture.specs.declared.packets.Captured.{Captured}
+use Rattle.capture.specs.declared.packets.Record.{Record}
 use Rattle.capture.specs.declared.refusals.Refusal.{Refusal}
-use Rattle.capture.specs.Meaning.{Meaning, ahead}
-use Rattle.capture.specs.Savefile.{Reading, item, items, rest, behind, onward}
+use Rattle.capture.specs.Captures.{Meaning, Reading, ahead, and_then, meaning_of, rest, some_packet, item_of, item, reading_after}
+use Rattle.capture.specs.Limits.{admission, limits_after}
 
 ahead_more : (ps : List Captured) (p : Captured) (m : Meaning) → ahead (ps ++ p ∷ []) m ≡ ahead ps (ahead (p ∷ []) m)
 ahead_more ps p (Ok qs) = ap {B = Meaning} Ok (append_assoc ps (p ∷ []) qs)
@@ -16,40 +18,39 @@ pub ahead_read : (ps : List Captured) (m : Meaning) → IsOk m → IsOk (ahead p
 ahead_read ps (Ok qs) e = refl
 ahead_read ps (Err f) e = cc e
 
--- whatever room is left, the end of the file and a refusal end the reading
-pub items_end : (n : ℕ) (r : Reading) → item r ≡ Ok None → items n r ≡ Ok []
-unfolding items
-items_end zero r e = rw e
-items_end (suc n) r e = rw e
+-- what one call of a reader answers, and then what the rest means
+abbrev then : Result (Option Captured) Refusal → Meaning → Meaning
+then (Ok (Some p)) m = ahead (p ∷ []) m
+then (Ok None) m = Ok []
+then (Err f) m = Err f
 
-items_refused : (n : ℕ) (r : Reading) (f : Refusal) → item r ≡ Err f → items n r ≡ Err f
-unfolding items
-items_refused zero r f e = rw e
-items_refused (suc n) r f e = rw e
+rest_next : (r : Reading) → rest r ≡ then (item r) (rest (reading_after (item r) r))
+rest_next r = by r.limits r.contents.records r.contents.fault
+  where
+    admitted : (l : Limits) (x : Record) (xs : List Record) (e : Option Refusal) (a : Result Captured Refusal) →
+        and_then a (meaning_of (limits_after a l) xs e)
+        ≡ then (some_packet a) (rest (reading_after (some_packet a) (record { contents = record { records = x ∷ xs; fault = e }; limits = l })))
+    admitted l x xs e (Ok p) = refl
+    admitted l x xs e (Err f) = refl
 
--- a packet is read only while there is room
-packet_needs_room : (r : Reading) (p : Captured) → item r ≡ Ok (Some p) → 0 < r.room
-packet_needs_room r p e = grind arith
-
-pub items_packet : (n : ℕ) (r : Reading) (p : Captured) → r.room ≡ n → item r ≡ Ok (Some p) → items n r ≡ ahead (p ∷ []) (items (n - 1) (behind r))
-unfolding items
-items_packet zero r p h e = absurd (omega (arith, packet_needs_room r p e))
-items_packet (suc n) r p h e =
-    let k : n ≡ suc n - 1 = omega arith in
-    rw e (ap (λ i. ahead (p ∷ []) (items i (behind r))) k)
+    by : (l : Limits) (xs : List Record) (e : Option Refusal) →
+        meaning_of l xs e ≡ then (item_of l xs e) (rest (reading_after (item_of l xs e) (record { contents = record { records = xs; fault = e }; limits = l })))
+    by l [] None = refl
+    by l [] (Some f) = refl
+    by l (x ∷ xs) e = admitted l x xs e (admission l x)
 
 -- One turn of the loop: m is what the whole capture means, ps are the packets read so far, and o is what was asked of r.
 module _ (m : Meaning) (ps : List Captured) (r : Reading) (h : m ≡ ahead ps (rest r)) where
+  turned : (o : Result (Option Captured) Refusal) → o ≡ item r → m ≡ ahead ps (then o (rest (reading_after o r)))
+  turned o e = h ∙ ap (ahead ps) (rest_next r ∙ ap (λ o. then o (rest (reading_after o r))) (sym e))
+
   pub rest_refused : (f : Refusal) → Err f ≡ item r → m ≡ Err f
-  rest_refused f e = h ∙ ap (ahead ps) (items_refused r.room r f (sym e))
+  rest_refused f e = turned (Err f) e
 
   pub rest_end : (o : Option Captured) → o ≡ None → Ok o ≡ item r → m ≡ Ok ps
-  rest_end o n e =
-      let k : item r ≡ Ok None = cc in
-      h ∙ ap (ahead ps) (items_end r.room r k) ∙ ahead_all ps
+  rest_end o n e = turned (Ok None) (rw n at e) ∙ ahead_all ps
 
-  pub rest_packet : (s : Reading) (o : Option Captured) (p : Captured) → o ≡ Some p → Ok o ≡ item r → s ≡ onward (Ok o) r → m ≡ ahead (ps ++ p ∷ []) (rest s)
+  pub rest_packet : (s : Reading) (o : Option Captured) (p : Captured) → o ≡ Some p → Ok o ≡ item r → s ≡ reading_after (Ok o) r → m ≡ ahead (ps ++ p ∷ []) (rest s)
   rest_packet s o p n e g =
-      let k : item r ≡ Ok (Some p) = cc in
-      let b : s ≡ behind r = rw n at g in
-      rw b (h ∙ ap (ahead ps) (items_packet r.room r p refl k) ∙ sym (ahead_more ps p (rest (behind r))))
+      let b : s ≡ reading_after (Ok (Some p)) r = rw n at g in
+      rw b (turned (Ok (Some p)) (rw n at e) ∙ sym (ahead_more ps p (rest (reading_after (Ok (Some p)) r))))

@@ -1,6 +1,8 @@
-pub mod Meaning
+pub mod Answers
+pub mod Captures
+pub mod Contents
+pub mod Limits
 pub mod Numbers
 pub mod Refusals
 pub mod Savefile
-pub mod Told
 pub mod Writing

@@ -1,7 +1,7 @@
 ghost use Rattle.std.specs.Prelude.{◌≡◌, Ok, Err, IfErr, OnOk, IsOk};
-ghost use Rattle.capture.specs.Savefile.{meaning, rest};
-ghost use Rattle.capture.specs.Told.{Tells};
-ghost use Rattle.capture.specs.Writing.{File, Sound, written, recorded};
+ghost use Rattle.capture.specs.Answers.{IsAnswerTo};
+ghost use Rattle.capture.specs.Captures.{meaning, rest};
+ghost use Rattle.capture.specs.Writing.{File, KeepsRules, file_bytes, packets};
 
 use crate::packets::Captured;
 use crate::readers::Reader;
@@ -12,9 +12,9 @@ use std::alloc::Global;
 /// and so, of a file that was written by the format's rules, the packets that were written. A refused capture is
 /// answered by its refusal even where memory runs out.
 pub fn read(alloc: Global, bytes: &[u8], shown: usize) -> Result<Vec<Captured>, ReadError>
-    ensures value { Tells (meaning shown bytes.now) result }
+    ensures value { IsAnswerTo (meaning shown bytes.now) result }
     ensures refused { IfErr (meaning shown bytes.now) (λ f. result ≡ Err (ReadError.Refused f)) }
-    ensures faithful { (f : File) → Sound shown f → bytes.now ≡ written f → Tells (Ok (recorded f)) result }
+    ensures faithful { (f : File) → KeepsRules shown f → bytes.now ≡ file_bytes f → IsAnswerTo (Ok (packets f)) result }
 {
     let mut reader = Reader::open(bytes, shown)?;
     let mut packets = Vec::new(alloc);

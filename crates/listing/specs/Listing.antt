@@ -2,7 +2,7 @@
 use Rattle.std.specs.Prelude.{ℕ, ◌+◌, ◌-◌, List, [], ◌∷◌, length, Ok, Err, Result}
 use Rattle.capture.specs.declared.packets.Captured.{Captured}
 use Rattle.capture.specs.declared.refusals.Refusal.{Refusal}
-use Rattle.capture.specs.Meaning.{Meaning, first_stamp}
+use Rattle.capture.specs.Captures.{Meaning, first_stamp}
 use Rattle.capture.specs.Refusals.{number, place}
 use Rattle.table.specs.declared.fields.Field.{Field}
 use Rattle.table.specs.declared.fields.Field.TheVariants as field

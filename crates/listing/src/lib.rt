@@ -2,7 +2,7 @@
 #![tactic(auto)]
 
 ghost use Rattle.std.specs.Prelude.{◌≡◌, IfOk};
-ghost use Rattle.capture.specs.Savefile.{meaning};
+ghost use Rattle.capture.specs.Captures.{meaning};
 ghost use Rattle.listing.specs.Listing.{printed, counted};
 
 use capture::{ReadError, Refusal, read};

@@ -1,5 +1,5 @@
 ghost use Rattle.std.specs.Prelude.{◌≡◌, IfOk};
-ghost use Rattle.capture.specs.Meaning.{first_stamp};
+ghost use Rattle.capture.specs.Captures.{first_stamp};
 ghost use Rattle.table.specs.Text.{table};
 ghost use Rattle.listing.specs.Listing.{row_of_record, records, refusal_row};
 

@@ -1,8 +1,7 @@
 -- What holds of every run of a capture that is read: there is one, no call is refused, its rows are by its ledger, and the laws of load hold.
 use Rattle.std.proofs.Common.{◌≡◌, ℕ, List, [], ◌∷◌, Ok, Err, Result, IsOk, refl, sym, ap, ◌∙◌, subst, arith}
 use Rattle.capture.specs.declared.packets.Captured.{Captured}
-use Rattle.capture.specs.Meaning.{Meaning}
-use Rattle.capture.specs.Savefile.{meaning}
+use Rattle.capture.specs.Captures.{Meaning, meaning}
 use Rattle.machine.specs.declared.calls.Call.TheVariants.{Configure}
 use Rattle.machine.specs.Standard.{standard_board, four, standard_numbers}
 use Rattle.policy.specs.Batches.{IsBounded}

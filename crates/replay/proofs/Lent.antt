@@ -1,6 +1,6 @@
 -- The tables of a capture's replay in memory that is lent for them.
 use Rattle.std.proofs.Common.{◌≡◌, ℕ, List, Ok, Err, Result, ap, ◌∙◌}
-use Rattle.capture.specs.Meaning.{Meaning}
+use Rattle.capture.specs.Captures.{Meaning}
 use Rattle.table.specs.Memory.{left}
 use Rattle.table.specs.declared.memory.TooSmall.{TooSmall}
 use Rattle.replay.specs.declared.answers.Replayed.{Replayed}

@@ -3,7 +3,7 @@ use Rattle.std.specs.Prelude.{◌≡◌, ℕ, ◌+◌, cond, List, length, fold,
 use Rattle.capture.specs.declared.packets.Captured.{Captured}
 use Rattle.capture.specs.declared.refusals.ReadError.{ReadError}
 use Rattle.capture.specs.declared.refusals.ReadError.TheVariants as reading
-use Rattle.capture.specs.Meaning.{Meaning}
+use Rattle.capture.specs.Captures.{Meaning}
 use Rattle.machine.specs.Standard.{standard_board, four}
 use Rattle.table.specs.Memory.{fits, left, refusal}
 use Rattle.table.specs.declared.memory.TooSmall.{TooSmall}

@@ -4,7 +4,7 @@ use Rattle.std.specs.List.{slice_get, list_any}
 use Rattle.std.specs.Option.{option_map, option_map_or}
 use Rattle.board.specs.Bearers.{Bearer, any_in}
 use Rattle.capture.specs.declared.packets.Captured.{Captured}
-pub use Rattle.capture.specs.Meaning.{first_stamp}
+pub use Rattle.capture.specs.Captures.{first_stamp}
 use Rattle.machine.specs.declared.answers.Answer.{Answer}
 use Rattle.machine.specs.declared.answers.Answer.TheVariants.{Fetched}
 use Rattle.machine.specs.declared.calls.Call.{Call}

@@ -1,6 +1,6 @@
 ghost use Rattle.std.specs.Prelude.{◌≡◌, ◌≤◌, length, Ok, IfOk, IfErr, OnOk, OnErr};
 ghost use Rattle.std.specs.List.{AllByRecursion};
-ghost use Rattle.capture.specs.Savefile.{meaning};
+ghost use Rattle.capture.specs.Captures.{meaning};
 ghost use Rattle.machine.specs.Standard.{standard_board, four};
 ghost use Rattle.replay.specs.Answers.{Declines, EveryRun, Refuses, Replays, Tabled};
 ghost use Rattle.replay.specs.ByLedger.{RowsByLedger};

@@ -1,6 +1,6 @@
 -- A report of the tables that a capture's replay gave.
 use Rattle.std.proofs.Common.{◌≡◌, Ok, ap, ◌∙◌}
-use Rattle.capture.specs.Meaning.{Meaning}
+use Rattle.capture.specs.Captures.{Meaning}
 use Rattle.replay.specs.Answers.{Tabled}
 use Rattle.replay.specs.declared.answers.Tables.{Tables}
 use Rattle.report.specs.Report.{Reports, chosen}

@@ -2,7 +2,7 @@
 use Rattle.std.specs.Prelude.{◌≡◌, ℕ, List, Ok, Err}
 use Rattle.capture.specs.declared.packets.Captured.{Captured}
 use Rattle.capture.specs.declared.refusals.Refusal.{Refusal}
-use Rattle.capture.specs.Meaning.{Meaning}
+use Rattle.capture.specs.Captures.{Meaning}
 use Rattle.listing.specs.Listing.{refusal_row}
 use Rattle.replay.specs.Answers.{StandardRun, figures, packets_text, periods_text}
 use Rattle.report.specs.declared.reports.Report.{Report}

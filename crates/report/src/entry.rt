@@ -1,5 +1,5 @@
 ghost use Rattle.std.specs.Prelude.{◌≡◌, IfOk};
-ghost use Rattle.capture.specs.Savefile.{meaning};
+ghost use Rattle.capture.specs.Captures.{meaning};
 ghost use Rattle.report.specs.Report.{Reports};
 
 use crate::reports::{Report, Table};

@@ -1,7 +1,6 @@
-use Rattle.std.proofs.Common.{◌≡◌, List}
+use Rattle.std.proofs.Common.{◌≡◌, length, List}
 use Rattle.capture.specs.declared.packets.Captured.{Captured}
-use Rattle.capture.specs.Meaning.{ahead}
-use Rattle.capture.specs.Savefile.{rest}
+use Rattle.capture.specs.Captures.{ahead, rest}
 use Rattle.capture.proofs.entry.pass_over.Given as goal
 
 -- what is passed over, and then the rest
@@ -9,4 +8,4 @@ abbrev pub invariant-loop-packet : goal.invariant-loop-packet
 invariant-loop-packet l = (ps : List Captured) × (rest l.initial.reader ≡ ahead ps (rest l.reader))
 
 abbrev pub decreases-loop-packet : goal.decreases-loop-packet
-decreases-loop-packet l = l.reader.room
+decreases-loop-packet l = length l.reader.contents.records

@@ -1,7 +1,7 @@
 use Rattle.std.proofs.Common.{◌≡◌, ◌++◌, ◌∷◌, [], Ok, Err, IsOk, rules, sym, ap, subst, ◌∙◌}
 use Rattle.std.proofs.lemmas.Result.{err_from_is_err_and}
 use Rattle.capture.specs.declared.refusals.ReadError.TheVariants.{Memory, Refused}
-use Rattle.capture.specs.Meaning.{ahead}
+use Rattle.capture.specs.Captures.{ahead}
 use Rattle.capture.proofs.ReadsBack.{answers}
 use Rattle.capture.proofs.Rest.{ahead_read, rest_packet, rest_end, rest_refused}
 use Rattle.capture.proofs.entry.read.Goals as goal
