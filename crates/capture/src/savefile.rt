@@ -1,6 +1,6 @@
-ghost use Rattle.std.specs.Prelude.{◌≡◌, ◌+◌, ◌≤◌, ◌<◌, length, OnOk, IfOk, IfErr, Err};
+ghost use Rattle.std.specs.Prelude.{◌≡◌, ◌+◌, ◌≤◌, ◌<◌, length, Err};
 ghost use Rattle.capture.specs.Numbers.{word};
-ghost use Rattle.capture.specs.Savefile.{header_order, all_records, split_first, captured_length};
+ghost use Rattle.capture.specs.Savefile.{header_order, all_records, split_first};
 
 use crate::orders::ByteOrder;
 use crate::packets::{Captured, Record, SECOND};

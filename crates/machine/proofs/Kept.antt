@@ -2,20 +2,19 @@
 use Rattle.std.proofs.Common.{◌≡◌, ℕ, ◌+◌, ◌≤◌, true, cond, eqb, leb, List, length, refl, Result, arith}
 use Rattle.std.proofs.lemmas.Bool.{and_parts, leb-true}
 use Rattle.board.specs.Bearers.{Bearer}
-use Rattle.machine.specs.Funded.{FundedCore}
 use Rattle.machine.specs.Kept.{Kept, KeptState}
-use Rattle.machine.specs.Tidy.{Openable, OnlyShown, TidyCore}
+use Rattle.machine.specs.Tidy.{Openable}
 use Rattle.machine.specs.declared.answers.Answer.{Answer}
 use Rattle.machine.specs.declared.calls.Call.{Call}
 use Rattle.machine.specs.declared.refusals.Refusal.{Refusal}
-use Rattle.machine.specs.State.{Core, State, configured, is_open, unconfigured, put_up}
+use Rattle.machine.specs.State.{Core, State, is_open}
 use Rattle.policy.specs.Batches.{Batches, IsBounded}
 use Rattle.machine.specs.declared.calls.RawSettings.{RawSettings}
 use Rattle.machine.specs.Settings.{Settings, settings_from, settings_checks, grant_bound}
 use Rattle.machine.specs.Moves.{set_gate}
 use Rattle.machine.specs.Checks.{in_range}
 use Rattle.machine.specs.Machine.{fresh, waiting_checks, call}
-use Rattle.machine.specs.Laws.{accounted, cycles_of}
+use Rattle.machine.specs.Laws.{cycles_of}
 use Rattle.machine.proofs.Counted.{CountedCore, move_counted, gate_counted, fresh_waiting}
 use Rattle.machine.proofs.Gate.{gate_tidy}
 use Rattle.machine.proofs.Listed.{move_shown, tidy_openable, gate_shown}

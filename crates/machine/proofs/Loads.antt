@@ -1,9 +1,9 @@
 -- Calm bearers, and what being busy is in numbers.
-use Rattle.std.proofs.Common.{◌≡◌, ℕ, ◌+◌, ◌<◌, ◌≤◌, Bool, true, false, cond, List, [], ◌∷◌, length, Option, refl, arith}
+use Rattle.std.proofs.Common.{◌≡◌, ℕ, ◌≤◌, true, false, List, [], ◌∷◌, refl, arith}
 use Rattle.std.proofs.lemmas.Bool.{true_from_ne_false}
-use Rattle.board.specs.Bearers.{Bearer, bearer_of, after_arm, after_disarm}
+use Rattle.board.specs.Bearers.{Bearer, after_arm, after_disarm}
 use Rattle.machine.specs.Tidy.{busy_count, Calm, TidyCore}
-use Rattle.machine.specs.State.{Grant, Core, State, configured, serves, busy, is_open, unconfigured, put_up}
+use Rattle.machine.specs.State.{Core, State, configured, busy, is_open, unconfigured}
 use Rattle.machine.specs.Numbers.{holds, times}
 
 pub calm_armed : (v : Bearer) → v.signal ≡ false → v.waiting ≡ [] → Calm (after_arm false v)

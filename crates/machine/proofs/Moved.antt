@@ -1,8 +1,8 @@
 -- What a call comes to: it is refused, it is tell asked before it is configured, it configures, or it is one of the moves below.
 -- What a law needs of the machine is shown by these cases.
-use Rattle.std.proofs.Common.{◌≡◌, ℕ, ◌+◌, ◌-◌, ◌<◌, ◌≤◌, Bool, true, false, cond, ◌||◌, eqb, ltb, leb, List, [], ◌∷◌, ◌++◌, length, get_or, drop, Some, None, Ok, Err, Option, Result, sym, refl, ap, ◌∙◌, subst, arith}
+use Rattle.std.proofs.Common.{◌≡◌, ℕ, ◌+◌, ◌-◌, ◌<◌, ◌≤◌, Bool, true, false, cond, ◌||◌, eqb, leb, List, [], ◌∷◌, ◌++◌, length, get_or, drop, Some, None, Ok, Err, Option, Result, sym, refl, ap, ◌∙◌, subst, arith}
 use Rattle.std.specs.List.{slice_get}
-use Rattle.std.proofs.lemmas.Bool.{cond_both, cond-true, cond-false, and_parts, ltb-true, leb-true, eqb-true, eqb-false, not-true}
+use Rattle.std.proofs.lemmas.Bool.{cond_both, cond-true, cond-false, ltb-true, leb-true, eqb-true, eqb-false, not-true}
 use Rattle.board.specs.declared.packets.Packet.{Packet}
 use Rattle.board.specs.Bearers.{blank, Bearer, bearer_of, changed, has_room, any_in, after_offer, after_arm, after_disarm}
 use Rattle.board.specs.Costs.{cost_of_length}
@@ -18,7 +18,7 @@ use Rattle.policy.specs.Batches.{Batches}
 use Rattle.machine.specs.declared.calls.RawSettings.{RawSettings}
 use Rattle.machine.specs.Settings.{Settings, settings_from, settings_checks, grant_bound}
 use Rattle.machine.specs.Moves.{join, charge, offer_cycles, set_gate, one_numbered, one_bearer_full, one_queue_full}
-use Rattle.machine.specs.Calls.{next_packet, left_with, taken_off, heard, arrive, begin, has_queue_room, high_marked, paid, take_by, close, serve, step, work, fetch, finish, discard, tell}
+use Rattle.machine.specs.Calls.{next_packet, left_with, taken_off, heard, arrive, begin, has_queue_room, high_marked, paid, take_by, close, serve, step, fetch, finish, discard, tell}
 use Rattle.machine.specs.Machine.{unless, no_report, fresh, waiting_checks, configure_checks, unconfigured_call, arrive_checks, step_checks, work_checks, fetch_checks, out_checks, checks_of, effect_of, gated, configured_call, call}
 use Rattle.machine.proofs.Basics.{tested, changed_same, none_left}
 use Rattle.machine.specs.Checks.{Check, first_refusal}

@@ -18,7 +18,7 @@ use Rattle.machine.specs.Laws.{fetched_by, if_accepted}
 use Rattle.machine.specs.Machine.{call}
 use Rattle.machine.specs.Moves.{is_over, set_gate}
 use Rattle.machine.specs.Numbers.{holds, without}
-use Rattle.machine.specs.State.{Clock, Core, State, configured, out_of, unconfigured, put_up}
+use Rattle.machine.specs.State.{Clock, Core, State, configured, out_of, unconfigured}
 use Rattle.policy.specs.Batches.{Batches}
 use Rattle.machine.proofs.Moved.{Move, lost, stored, signalled, begun, emptied, taken, completed, worked, fetched, finished, discarded, behind, Happens, refused, asked_unconfigured, configures, moved, happened}
 use Rattle.machine.proofs.Periods.{settled}

@@ -7,7 +7,6 @@ use Rattle.board.proofs.Changes.{bearer_changed}
 use Rattle.machine.specs.Kept.{Kept, KeptState}
 use Rattle.machine.specs.Settings.{Settings}
 use Rattle.machine.specs.State.{Grant, Core, serves, put_up}
-use Rattle.policy.specs.Batches.{Batches}
 use Rattle.machine.specs.Numbers.{times}
 use Rattle.machine.specs.Laws.{Always, BoundedMemory}
 use Rattle.machine.proofs.Kept.{call_keeps}

@@ -6,12 +6,12 @@ use Rattle.std.proofs.lemmas.List.Sums.{sum_by_push}
 use Rattle.std.proofs.Math.Nat.{mul-le-mul_right}
 use Rattle.board.specs.Bearers.{Bearer, bearer_of, changed, after_take, after_arm, after_disarm}
 use Rattle.board.specs.Costs.{class_costs, length_class, cost_of_length, highest_class_cost}
-use Rattle.machine.specs.Funded.{Accounts, price, due, Cheap, Funded, FundedCore}
+use Rattle.machine.specs.Funded.{price, due, Cheap, Funded, FundedCore}
 use Rattle.machine.specs.Tidy.{TidyCore}
 use Rattle.machine.specs.declared.answers.Answer.{Answer}
 use Rattle.machine.specs.declared.calls.Call.{Call}
 use Rattle.machine.specs.declared.refusals.Refusal.{Refusal}
-use Rattle.machine.specs.State.{Clock, Grant, Core, State, configured, waits, is_open, unconfigured, put_up}
+use Rattle.machine.specs.State.{Grant, Core, State, configured, waits, is_open, unconfigured, put_up}
 use Rattle.policy.specs.Batches.{Batches, IsBounded}
 use Rattle.machine.specs.Settings.{Settings, settings_from, highest_cost, grant_bound}
 use Rattle.machine.specs.Moves.{set_gate}

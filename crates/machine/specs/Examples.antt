@@ -1,16 +1,15 @@
 -- Worked examples: runs of the machine on the standard board, line by line.
 use Rattle.std.specs.Prelude.{ℕ, ◌+◌, true, false, cond, List, [], ◌∷◌, Some, Ok, Err, Result}
-use Rattle.board.specs.Bearers.{Bearer, bearer_of}
+use Rattle.board.specs.Bearers.{bearer_of}
 use Rattle.machine.specs.declared.answers.Answer.{Answer}
 use Rattle.machine.specs.declared.answers.Answer.TheVariants.{Configured, Arrived, Stepped, Worked, Fetched, Told}
 use Rattle.machine.specs.declared.answers.Progress.TheVariants.{Begun, Empty, Taken, Rescheduled, Completed}
 use Rattle.machine.specs.declared.calls.Call.{Call}
 use Rattle.machine.specs.declared.calls.Call.TheVariants.{Configure, Arrive, Step, Work, Fetch, Tell}
-use Rattle.machine.specs.declared.calls.RawSettings.{RawSettings}
 use Rattle.machine.specs.declared.refusals.Refusal.{Refusal}
 use Rattle.machine.specs.Refusals.{number_of, place_of}
 use Rattle.machine.specs.Standard.{standard_numbers}
-use Rattle.machine.specs.State.{Core, State, configured, unconfigured, put_up}
+use Rattle.machine.specs.State.{Core, State, configured, unconfigured}
 use Rattle.policy.specs.Batches.{Batches}
 use Rattle.machine.specs.Machine.{no_counts, call}
 

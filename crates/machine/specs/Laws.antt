@@ -13,7 +13,7 @@ use Rattle.machine.specs.declared.answers.Report.{Report}
 use Rattle.machine.specs.declared.calls.Call.{Call}
 use Rattle.machine.specs.declared.calls.Call.TheVariants.{Configure, Arrive, Step, Work, Fetch, Finish, Discard, Tell}
 use Rattle.machine.specs.declared.refusals.Refusal.{Refusal}
-use Rattle.machine.specs.State.{Core, State, configured, waits, busy, is_open, serves, unconfigured, put_up}
+use Rattle.machine.specs.State.{Core, State, configured, waits, busy, is_open, unconfigured, put_up}
 use Rattle.policy.specs.Batches.{Batches, IsBounded}
 use Rattle.machine.specs.Settings.{Settings, grant_bound}
 use Rattle.machine.specs.Tidy.{ways}

@@ -1,5 +1,5 @@
 -- The receiver: what each call answers and leaves, with its checks in their order.
-use Rattle.std.specs.Prelude.{ℕ, ◌+◌, ◌-◌, Bool, false, not, ◌&&◌, List, [], ◌∷◌, ◌++◌, map, length, Some, None, Ok, Err, Option, Result, ◌==◌, nat_le, nat_lt}
+use Rattle.std.specs.Prelude.{ℕ, ◌+◌, ◌-◌, false, not, List, [], ◌∷◌, ◌++◌, map, length, Some, None, Ok, Err, Option, Result, ◌==◌, nat_le, nat_lt}
 use Rattle.board.specs.Bearers.{Bearer, any_in, after_arm, after_disarm}
 use Rattle.policy.specs.Batches.{Batches}
 use Rattle.machine.specs.declared.answers.Answer.{Answer}

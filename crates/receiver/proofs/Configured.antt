@@ -1,5 +1,5 @@
 -- What configure comes to.
-use Rattle.std.proofs.Common.{◌≡◌, ◌+◌, ℕ, true, false, cond, leb, List, [], ◌∷◌, ◌++◌, map, Some, None, Ok, Err, Option, refl, ap, sym, ◌∙◌, subst}
+use Rattle.std.proofs.Common.{◌≡◌, ℕ, true, false, cond, List, [], ◌∷◌, ◌++◌, map, Some, None, Ok, Err, Option, refl, ap, sym, ◌∙◌}
 use Rattle.std.specs.Option.{is_some}
 use Rattle.std.proofs.lemmas.Bool.{cond_both}
 use Rattle.board.specs.Bearers.{Bearer, any_in, after_arm, after_disarm}
@@ -7,10 +7,10 @@ use Rattle.machine.specs.declared.answers.Answer.TheVariants.{Configured}
 use Rattle.machine.specs.declared.calls.Call.TheVariants.{Configure}
 use Rattle.machine.specs.declared.calls.RawSettings.{RawSettings}
 use Rattle.machine.specs.declared.refusals.Refusal.{Refusal}
-use Rattle.machine.specs.declared.refusals.Refusal.TheVariants.{NoShare, AlreadyConfigured}
+use Rattle.machine.specs.declared.refusals.Refusal.TheVariants.{AlreadyConfigured}
 use Rattle.machine.specs.Checks.{Check, first_refusal}
 use Rattle.machine.specs.Settings.{Settings, settings_from, settings_checks}
-use Rattle.machine.specs.State.{Core, State, configured, waits, put_up}
+use Rattle.machine.specs.State.{Core, configured, waits, put_up}
 use Rattle.policy.specs.Batches.{Batches}
 use Rattle.machine.specs.Machine.{unless, fresh, share_check, waiting_checks, configure_checks, call}
 use Rattle.machine.proofs.Moved.{all_passed}

@@ -12,7 +12,7 @@ use Rattle.machine.specs.Machine.{out_checks, call, checks_of, effect_of}
 use Rattle.machine.specs.Moves.{set_gate}
 use Rattle.machine.specs.Numbers.{holds}
 use Rattle.machine.specs.Settings.{Settings}
-use Rattle.machine.specs.State.{Core, is_open, put_up}
+use Rattle.machine.specs.State.{Core, put_up}
 use Rattle.machine.proofs.Unmoved.{gate_same}
 use Rattle.receiver.specs.declared.ends.End.{End}
 use Rattle.receiver.specs.declared.ends.End.TheVariants.{Delivered, Discarded}

@@ -4,7 +4,6 @@ ghost use Rattle.machine.specs.Checks.{first_refusal};
 ghost use Rattle.machine.specs.Settings.{highest_cost};
 ghost use Rattle.machine.specs.Machine.{retirement_check, share_check, waiting_checks, arrive_checks, step_checks, work_checks, fetch_checks};
 ghost use Rattle.receiver.specs.Figures.{Timely};
-ghost use Rattle.receiver.specs.Held.{grant_of};
 ghost use Rattle.receiver.specs.Settings.{settings_of};
 
 use crate::cores::{BEGIN_CHARGE, Core, MOST_OUT};

@@ -1,5 +1,5 @@
 -- Which rule a turn goes by, and what it then comes to.
-use Rattle.std.proofs.Common.{◌≡◌, ℕ, ◌<◌, ◌≤◌, Bool, true, false, leb, Some, None, Option, refl, subst, ◌∙◌, is_ok, is_some, min, IfSome}
+use Rattle.std.proofs.Common.{◌≡◌, ◌<◌, ◌≤◌, Bool, true, false, leb, Some, None, Option, refl, subst, ◌∙◌, is_ok, is_some, min, IfSome}
 use Rattle.std.proofs.lemmas.Bool.{le-leb, lt-leb}
 use Rattle.std.specs.Option.{option_map, option_map_or}
 use Rattle.machine.specs.declared.calls.Call.{Call}

@@ -1,13 +1,11 @@
 -- What a turn comes to.
-use Rattle.std.specs.Prelude.{◌≡◌, ℕ, Some, None, Option, Result}
+use Rattle.std.specs.Prelude.{◌≡◌, Some, None, Option, Result}
 use Rattle.std.specs.Option.{option_map, option_map_or}
 use Rattle.machine.specs.declared.answers.Answer.{Answer}
-use Rattle.machine.specs.declared.answers.Report.{Report}
 use Rattle.machine.specs.declared.calls.Call.{Call}
 use Rattle.machine.specs.declared.calls.Call.TheVariants.{Discard}
 use Rattle.machine.specs.declared.refusals.Refusal.{Refusal}
 use Rattle.machine.specs.Machine.{call}
-use Rattle.machine.specs.State.{Core}
 use Rattle.policy.specs.Batches.{Batches}
 use Rattle.receiver.specs.Receivers.{Receiving}
 use Rattle.replay.specs.declared.fates.Decision.{Decision}

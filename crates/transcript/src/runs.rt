@@ -1,6 +1,5 @@
 ghost use Rattle.std.specs.Prelude.{◌≡◌, IfOk, string_bytes};
 ghost use Rattle.machine.specs.State.{put_up};
-ghost use Rattle.receiver.specs.Receivers.{batches};
 ghost use Rattle.conduct.specs.Lists.{replies_to};
 ghost use Rattle.transcript.specs.Transcript.{Tells, lines_of, transcript, transcript_over};
 

@@ -4,7 +4,7 @@ use Rattle.machine.specs.Laws.{Lawful}
 use Rattle.machine.proofs.Lawful.{lawful}
 use Rattle.machine.specs.State.{put_up}
 use Rattle.receiver.specs.declared.receipts.Receipt.{Receipt}
-use Rattle.conduct.specs.Lists.{Keeps, after_list, receipts_of}
+use Rattle.conduct.specs.Lists.{after_list, receipts_of}
 use Rattle.conduct.proofs.Keeping.{keeps, ledger_out}
 use Rattle.conduct.proofs.lists.conduct.Goals as goal
 

@@ -1,10 +1,10 @@
-use Rattle.std.proofs.Common.{◌≡◌, ◌∙◌, ℕ, Ok, Option, ap, sym, subst, refl, rules}
+use Rattle.std.proofs.Common.{◌≡◌, ◌∙◌, Ok, Option, ap, sym, subst, refl, rules}
 use Rattle.machine.specs.declared.answers.Answer.TheVariants.{Configured}
 use Rattle.machine.specs.declared.calls.Call.TheVariants.{Configure}
-use Rattle.machine.specs.Kept.{Kept, KeptState}
+use Rattle.machine.specs.Kept.{KeptState}
 use Rattle.machine.specs.Machine.{fresh}
 use Rattle.machine.specs.Settings.{Settings, settings_from}
-use Rattle.machine.specs.State.{State, put_up, configured}
+use Rattle.machine.specs.State.{put_up, configured}
 use Rattle.receiver.specs.declared.settings.Settings.{Settings as HeldSettings}
 use Rattle.receiver.specs.Fields.{IsKept}
 use Rattle.receiver.specs.Settings.{settings_of}

@@ -1,9 +1,8 @@
-use Rattle.std.proofs.Common.{◌≡◌, ◌∙◌, sym, ap, subst, Err, None, ℕ}
+use Rattle.std.proofs.Common.{◌≡◌, ◌∙◌, sym, ap, Err, None, ℕ}
 use Rattle.std.specs.Result.{result_err}
 use Rattle.machine.specs.Calls.{spend}
 use Rattle.machine.specs.Checks.{first_refusal}
 use Rattle.machine.specs.Machine.{out_checks}
-use Rattle.machine.specs.State.{Core}
 use Rattle.receiver.specs.Ends.{one_of}
 use Rattle.receiver.specs.declared.receipts.Unspent.{Unspent}
 use Rattle.receiver.proofs.Unconfigured.{hands_back, spends, spent_kept}

@@ -2,8 +2,7 @@ use Rattle.std.proofs.Common.{refl, rules}
 use Rattle.machine.specs.declared.answers.Answer.TheVariants.{Worked}
 use Rattle.machine.specs.declared.calls.Call.TheVariants.{Work}
 use Rattle.machine.specs.Machine.{call}
-use Rattle.receiver.specs.Settings.{settings_of}
-use Rattle.receiver.proofs.Called.{set, refuses_unset, refuses, settled, leaves_kept, accepts}
+use Rattle.receiver.proofs.Called.{set, refuses_unset, refuses, leaves_kept, accepts}
 use Rattle.receiver.proofs.receivers.Receiver.work.Goals as goal
 
 pub returns-in_err-settings : goal.returns-in_err-settings
