@@ -2,7 +2,8 @@ pub mod Answers
 pub mod Calls
 pub mod Numbers
 pub mod Refusals
+pub mod Results
 pub mod Script
-pub mod Told
+pub mod Readings
 pub mod Words
 pub mod Writing

@@ -26,15 +26,15 @@ rule NoneQueued = codes "the queue is empty"
 rule AllOut = codes "sixteen packets are out"
 rule NotOut = codes "the receipt's number is not out"
 
-abbrev pub refused : Refusal → List ℕ
-refused r = codes "refused " ++ (decimal (number_of r) ++ (codes " place " ++ (decimal (place_of r) ++ (codes ": " ++ rule r))))
+abbrev pub refusal_text : Refusal → List ℕ
+refusal_text r = codes "refused " ++ (decimal (number_of r) ++ (codes " place " ++ (decimal (place_of r) ++ (codes ": " ++ rule r))))
 
 -- what is wrong with a line
-abbrev pub wrong : Fault → List ℕ
-wrong UnknownCall = codes "no call has this name"
-wrong (WrongCount wanted) = codes "the count of numbers is not " ++ decimal wanted
-wrong NotANumber = codes "a number is not digits alone"
-wrong TooLarge = codes "a number is too large"
+abbrev pub fault_text : Fault → List ℕ
+fault_text UnknownCall = codes "no call has this name"
+fault_text (WrongCount wanted) = codes "the count of numbers is not " ++ decimal wanted
+fault_text NotANumber = codes "a number is not digits alone"
+fault_text TooLarge = codes "a number is too large"
 
-abbrev pub unreadable : Unread → List ℕ
-unreadable u = codes "unread " ++ (decimal u.line ++ (codes ": " ++ wrong u.fault))
+abbrev pub unread_text : Unread → List ℕ
+unread_text u = codes "unread " ++ (decimal u.line ++ (codes ": " ++ fault_text u.fault))

@@ -4,7 +4,7 @@ use Rattle.machine.specs.declared.calls.Call.{Call}
 use Rattle.script.specs.declared.faults.Fault.{Fault}
 use Rattle.script.specs.declared.faults.Unread.{Unread}
 use Rattle.script.specs.Words.{lines, words}
-use Rattle.script.specs.Calls.{asked}
+use Rattle.script.specs.Calls.{call_of}
 
 abbrev pub Meaning : Type 0
 Meaning = Result (List Call) Unread
@@ -23,7 +23,7 @@ and_then n (Err f) m = Err (record { line = n; fault = f })
 -- the lines from that of number n on
 abbrev pub from_line : ℕ → List (List ℕ) → Meaning
 from_line n [] = Ok []
-from_line n (l ∷ ls) = and_then n (asked (words l)) (from_line (n + 1) ls)
+from_line n (l ∷ ls) = and_then n (call_of (words l)) (from_line (n + 1) ls)
 
 -- lines count from 1
 abbrev pub meaning : List ℕ → Meaning

@@ -21,15 +21,15 @@ numbers_of (Finish receipt) = receipt ∷ []
 numbers_of (Discard receipt) = receipt ∷ []
 numbers_of _ = []
 
-abbrev pub line_of : Call → List ℕ
-line_of c = first_word c ++ flat_map (λ w. 32 ∷ w) (map decimal (numbers_of c))
+abbrev pub call_line : Call → List ℕ
+call_line c = first_word c ++ flat_map (λ w. 32 ∷ w) (map decimal (numbers_of c))
 
-abbrev pub written : List Call → List ℕ
-written cs = flat_map (λ c. line_of c ++ 10 ∷ []) cs
+abbrev pub calls_text : List Call → List ℕ
+calls_text cs = flat_map (λ c. call_line c ++ 10 ∷ []) cs
 
 -- every number of a call is of the size that its type has
-abbrev pub Sized : Call → Type 0
-Sized (Arrive bearer length tag) = (bearer < 2 ^ 64) × (length < 2 ^ 64) × (tag < 2 ^ 32)
-Sized (Finish receipt) = receipt < 2 ^ 32
-Sized (Discard receipt) = receipt < 2 ^ 32
-Sized c = All (λ n. n < 2 ^ 64) (numbers_of c)
+abbrev pub FitsTypes : Call → Type 0
+FitsTypes (Arrive bearer length tag) = (bearer < 2 ^ 64) × (length < 2 ^ 64) × (tag < 2 ^ 32)
+FitsTypes (Finish receipt) = receipt < 2 ^ 32
+FitsTypes (Discard receipt) = receipt < 2 ^ 32
+FitsTypes c = All (λ n. n < 2 ^ 64) (numbers_of c)

@@ -1,5 +1,5 @@
 ghost use Rattle.std.specs.Prelude.{◌≡◌, map};
-ghost use Rattle.script.specs.Calls.{spelling, name_of, configure, arrive, call, asked};
+ghost use Rattle.script.specs.Calls.{spelling, name_of, configure, arrive, call, call_of};
 
 use crate::faults::Fault;
 use crate::numbers::{narrow, numbers};
@@ -116,8 +116,8 @@ fn arrive(numbers: [u64; 3]) -> Result<Call, Fault>
 }
 
 /// The call that the words of a line ask for, if there are any.
-pub(crate) fn asked(words: &[&[u8]]) -> Result<Option<Call>, Fault>
-    ensures value { result ≡ asked (map (λ w. w.now) words.now) }
+pub(crate) fn call_of(words: &[&[u8]]) -> Result<Option<Call>, Fault>
+    ensures value { result ≡ call_of (map (λ w. w.now) words.now) }
 {
     let [name, numbers @ ..] = words else {
         return Ok(None);
