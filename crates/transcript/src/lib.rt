@@ -8,4 +8,4 @@ mod runs;
 mod tests;
 
 pub use failures::{Failure, reason};
-pub use runs::{LONGEST, run, run_over};
+pub use runs::{LONGEST, run, run_on, run_over};
