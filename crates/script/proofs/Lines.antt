@@ -6,8 +6,8 @@ use Rattle.std.specs.List.{enumerate_from}
 use Rattle.machine.specs.declared.calls.Call.{Call}
 use Rattle.script.specs.declared.faults.Fault.{Fault}
 use Rattle.script.specs.Words.{words}
-use Rattle.script.specs.Calls.{call_of}
-use Rattle.script.specs.Script.{Meaning, ahead, and_then, from_line}
+use Rattle.script.specs.Keywords.{call_of}
+use Rattle.script.specs.Texts.{Meaning, ahead, and_then, from_line}
 
 ahead_more : (cs : List Call) (c : Call) (m : Meaning) → ahead (cs ++ c ∷ []) m ≡ ahead cs (ahead (c ∷ []) m)
 ahead_more cs c (Ok ds) = ap {B = Meaning} Ok (append_assoc cs (c ∷ []) ds)
@@ -25,9 +25,9 @@ next_by_item ls k i l t =
     let e : (i, l) ≡ (0 + k, get_or ls k l) = t.1 ∙ get_or-enumerate_from 0 ls k (i, l) within in
     record { within = within; place = omega (arith, ap (λ p. p.0) e); here = ap (λ p. p.1) e }
 
--- the words of a line, as they are passed on
-pub asking : (ws vs : List (Bor (List ℕ))) (l : List ℕ) (r q : Result (Option Call) Fault) → r ≡ call_of (map (λ w. w.now) ws) → ws ≡ vs → map (λ w. w.now) vs ≡ words l → r ≡ q → call_of (words l) ≡ q
-asking ws vs l r q a b c d = sym (a ∙ ap (λ x. call_of (map (λ w. w.now) x)) b ∙ ap call_of c) ∙ d
+-- what f answers of the words of a line, as they are passed on
+pub of_words : {A : Type 0} (f : List (List ℕ) → A) (ws vs : List (Bor (List ℕ))) (l : List ℕ) (r q : A) → r ≡ f (map (λ w. w.now) ws) → ws ≡ vs → map (λ w. w.now) vs ≡ words l → r ≡ q → f (words l) ≡ q
+of_words f ws vs l r q a b c d = sym (a ∙ ap (λ x. f (map (λ w. w.now) x)) b ∙ ap f c) ∙ d
 
 -- One turn of the loop: m is what the whole text means, cs are the calls read so far, and ls are its lines, of which k are read.
 module _ (m : Meaning) (cs : List Call) (ls : List (List ℕ)) (k : ℕ) (h : m ≡ ahead cs (from_line (k + 1) (drop k ls))) where

@@ -1,9 +1,8 @@
--- The call that the words of a line ask for.
-use Rattle.std.specs.Prelude.{ℕ, ◌^◌, List, [], ◌∷◌, Some, None, Ok, Err, Option, Result, bytes_eq, codes, find, slice_index}
+-- The calls by their names, with the numbers behind these.
+use Rattle.std.specs.Prelude.{ℕ, ◌^◌, List, Result, codes, slice_index}
 use Rattle.machine.specs.declared.calls.Call.{Call}
 use Rattle.machine.specs.declared.calls.Call.TheVariants as calls
 use Rattle.script.specs.declared.faults.Fault.{Fault}
-use Rattle.script.specs.declared.faults.Fault.TheVariants.{UnknownCall}
 use Rattle.script.specs.declared.calls.Name.{Name}
 use Rattle.script.specs.declared.calls.Name.TheVariants.{Configure, Arrive, Step, Work, Fetch, Finish, Discard, Tell}
 use Rattle.script.specs.Numbers.{below, exactly}
@@ -18,12 +17,6 @@ spelling Fetch = codes "fetch"
 spelling Finish = codes "finish"
 spelling Discard = codes "discard"
 spelling Tell = codes "tell"
-
-abbrev pub names : List Name
-names = Configure ∷ Arrive ∷ Step ∷ Work ∷ Fetch ∷ Finish ∷ Discard ∷ Tell ∷ []
-
-abbrev pub name_of : List ℕ → Option Name
-name_of word = find (λ name. bytes_eq (spelling name) word) names
 
 abbrev pub configure : List ℕ → Call
 configure ns =
@@ -55,12 +48,3 @@ call Fetch words = result_map (λ ns. calls.Fetch) (exactly 0 words)
 call Finish words = result_and_then (receipt calls.Finish) (exactly 1 words)
 call Discard words = result_and_then (receipt calls.Discard) (exactly 1 words)
 call Tell words = result_map (λ ns. calls.Tell) (exactly 0 words)
-
-abbrev pub named : Option Name → List (List ℕ) → Result Call Fault
-named None words = Err UnknownCall
-named (Some name) words = call name words
-
--- a line without words asks for no call
-abbrev pub call_of : List (List ℕ) → Result (Option Call) Fault
-call_of [] = Ok None
-call_of (word ∷ words) = result_map Some (named (name_of word) words)

@@ -48,11 +48,18 @@ fn fault_text(alloc: Global, fault: Fault) -> Result<String, AllocError>
 {
     match fault {
         Fault::UnknownCall => String::from_str(alloc, "no call has this name"),
+        Fault::OutOfPlace => String::from_str(alloc, "a call stands before this line"),
+        Fault::UnknownBearerKind => String::from_str(alloc, "no kind of bearer has this name"),
+        Fault::UnknownPolicyKind => String::from_str(alloc, "no kind of policy has this name"),
         Fault::WrongCount { wanted } => {
             format!(in alloc; "the count of numbers is not {wanted}")
         }
         Fault::NotANumber => String::from_str(alloc, "a number is not digits alone"),
         Fault::TooLarge => String::from_str(alloc, "a number is too large"),
+        Fault::NinthBearer => {
+            String::from_str(alloc, "a board shows no more than eight bearers")
+        }
+        Fault::SecondPolicy => String::from_str(alloc, "the policy is said already"),
     }
 }
 

@@ -9,7 +9,7 @@ use Rattle.machine.specs.Examples.{four, standard_board}
 use Rattle.machine.specs.State.{Batches, idle}
 use Rattle.script.specs.Answers.{answer_text}
 use Rattle.script.specs.Refusals.{refusal_text}
-use Rattle.script.specs.Script.{Meaning, meaning}
+use Rattle.script.specs.Texts.{Meaning, meaning}
 use Rattle.transcript.specs.declared.failures.Failure.{Failure}
 use Rattle.transcript.specs.declared.failures.Failure.TheVariants.{TooLong, Unread, NoMemory}
 

@@ -7,9 +7,9 @@ use Rattle.machine.specs.declared.calls.Call.{Call}
 use Rattle.script.specs.declared.faults.Fault.{Fault}
 use Rattle.script.specs.declared.faults.ReadError.TheVariants.{Unread}
 use Rattle.script.specs.Words.{lines, words}
-use Rattle.script.specs.Calls.{call_of}
+use Rattle.script.specs.Keywords.{call_of}
 use Rattle.script.proofs.ReadsBack.{answers}
-use Rattle.script.proofs.Lines.{Next, all_read, asking, next_by_item, refused, no_call, one_call}
+use Rattle.script.proofs.Lines.{Next, all_read, next_by_item, no_call, of_words, one_call, refused}
 use Rattle.script.proofs.entry.read.Goals.{In-Some, After-call_of}
 use Rattle.script.proofs.entry.read.Goals as goal
 
@@ -26,7 +26,7 @@ next c =
 
 -- what the line at hand asks for
 asks : (c : After-call_of) (q : Result (Option Call) Fault) → c.call_of.result ≡ q → call_of (words c.in-Some.line.now) ≡ q
-asks c q e = asking _ _ c.in-Some.line.now _ q c.call_of.ensures.value c.deref.ensures.value c.in_ok-words.ensures.value e
+asks c q e = of_words call_of _ _ c.in-Some.line.now _ q c.call_of.ensures.value c.deref.ensures.value c.in_ok-words.ensures.value e
 
 pub returns-in-Err : goal.returns-in-Err
 returns-in-Err c =
