@@ -5,3 +5,5 @@ pub mod Names
 pub mod Lines
 pub mod Cut
 pub mod ReadsBack
+pub mod Turns
+pub mod ScriptReadsBack

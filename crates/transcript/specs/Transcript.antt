@@ -7,15 +7,15 @@ use Rattle.conduct.specs.declared.replies.Reply.{Reply}
 use Rattle.conduct.specs.declared.replies.Reply.TheVariants.{Accepted, Refused, NoReceipt}
 use Rattle.machine.specs.Examples.{four, standard_board}
 use Rattle.machine.specs.State.{Batches, idle}
-use Rattle.script.specs.Answers.{said}
-use Rattle.script.specs.Refusals.{refused}
-use Rattle.script.specs.Script.{Meaning, meaning}
+use Rattle.script.specs.Answers.{answer_text}
+use Rattle.script.specs.Refusals.{refusal_text}
+use Rattle.script.specs.Texts.{Meaning, meaning}
 use Rattle.transcript.specs.declared.failures.Failure.{Failure}
 use Rattle.transcript.specs.declared.failures.Failure.TheVariants.{TooLong, Unread, NoMemory}
 
 abbrev pub line_of : Reply → List ℕ
-line_of (Accepted a) = said a
-line_of (Refused r) = refused r
+line_of (Accepted a) = answer_text a
+line_of (Refused r) = refusal_text r
 line_of NoReceipt = codes "no receipt"
 
 -- each line ends in a line feed
