@@ -7,3 +7,4 @@ pub mod Cut
 pub mod ReadsBack
 pub mod Turns
 pub mod ScriptReadsBack
+pub mod Few
