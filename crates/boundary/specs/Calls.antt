@@ -1,31 +1,48 @@
 -- How the calls of a text end for a host that lends memory for the answers.
-use Rattle.std.specs.Prelude.{ℕ, cond, List, length, map, Ok, Err, Result, Some, None, Option}
-use Rattle.setup.specs.declared.boards.RawBearer.{RawBearer}
-use Rattle.setup.specs.declared.runs.RawPolicy.{RawPolicy}
+use Rattle.std.specs.Prelude.{ℕ, Bool, cond, ◌&&◌, List, length, map, Ok, Err, Result, Some, Option}
+use Rattle.std.specs.Option.{is_some}
+use Rattle.std.specs.Result.{result_map_both}
 use Rattle.setup.specs.Setups.{batches_of, bearer_of, is_board}
+use Rattle.setup.specs.declared.setups.BearerSetup.{BearerSetup}
+use Rattle.setup.specs.declared.setups.PolicySetup.{PolicySetup}
 use Rattle.table.specs.Memory.{fits, left}
 use Rattle.transcript.specs.declared.failures.Failure.{Failure}
 use Rattle.transcript.specs.declared.failures.Failure.TheVariants.{TooLong, Unread, NoMemory}
 use Rattle.transcript.specs.Transcript.{transcript_over}
+use Rattle.boundary.specs.Setups.{policy_of, setups_of}
 use Rattle.boundary.specs.declared.calls.CallsEnd.{CallsEnd}
-use Rattle.boundary.specs.declared.statuses.TheConstants.{WRITTEN, TOO_SMALL, UNREAD, TOO_LONG, NO_BOARD, NO_MEMORY}
-
--- what is to be answered: a line for each call, or why there are none, or nothing on numbers of no board
-abbrev pub answer_to : List RawBearer → RawPolicy → List ℕ → Option (Result (List ℕ) Failure)
-answer_to bs p text = cond (is_board bs) (Some (transcript_over (batches_of p) (map bearer_of bs) text)) None
+use Rattle.boundary.specs.declared.setups.RawBearer.{RawBearer}
+use Rattle.boundary.specs.declared.setups.RawPolicy.{RawPolicy}
+use Rattle.boundary.specs.declared.statuses.TheConstants.{WRITTEN, TOO_SMALL, UNREAD, TOO_LONG, NO_BOARD, NO_MEMORY, UNKNOWN_KIND}
 
 abbrev pub end : ℕ → ℕ → CallsEnd
 end status figure = record { status = status; figure = figure }
 
+-- how the calls of a text without answers end
+abbrev pub unanswered : Failure → CallsEnd
+unanswered (Unread u) = end UNREAD u.line
+unanswered TooLong = end TOO_LONG 0
+unanswered NoMemory = end NO_MEMORY 0
+
+-- whether the numbers of all kinds are those of kinds
+abbrev pub is_known : List RawBearer → RawPolicy → Bool
+is_known bs p = is_some (setups_of bs) && is_some (policy_of p)
+
+-- what is to be answered on a board and by a policy whose kinds are known: a line for each call, or how the calls end without
+abbrev pub answer_by : Option (List BearerSetup) → Option PolicySetup → List ℕ → Result (List ℕ) CallsEnd
+answer_by (Some bs) (Some p) text = result_map_both (λ lines. lines) unanswered (transcript_over (batches_of p) (map bearer_of bs) text)
+answer_by _ _ text = Err (end UNKNOWN_KIND 0)
+
+-- and by their numbers
+abbrev pub answer_to : List RawBearer → RawPolicy → List ℕ → Result (List ℕ) CallsEnd
+answer_to bs p text = cond (is_board bs) (answer_by (setups_of bs) (policy_of p) text) (Err (end NO_BOARD 0))
+
 -- how the calls end then, with so much memory
-abbrev pub ended : Option (Result (List ℕ) Failure) → List ℕ → CallsEnd
-ended None memory = end NO_BOARD 0
-ended (Some (Ok lines)) memory = end (cond (fits memory 0 lines) WRITTEN TOO_SMALL) (length lines)
-ended (Some (Err (Unread u))) memory = end UNREAD u.line
-ended (Some (Err TooLong)) memory = end TOO_LONG 0
-ended (Some (Err NoMemory)) memory = end NO_MEMORY 0
+abbrev pub ended : Result (List ℕ) CallsEnd → List ℕ → CallsEnd
+ended (Ok lines) memory = end (cond (fits memory 0 lines) WRITTEN TOO_SMALL) (length lines)
+ended (Err e) memory = e
 
 -- and what is left in the memory
-abbrev pub left_by : Option (Result (List ℕ) Failure) → List ℕ → List ℕ
-left_by (Some (Ok lines)) memory = left memory 0 lines
-left_by _ memory = memory
+abbrev pub left_by : Result (List ℕ) CallsEnd → List ℕ → List ℕ
+left_by (Ok lines) memory = left memory 0 lines
+left_by (Err e) memory = memory

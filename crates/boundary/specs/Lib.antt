@@ -1,2 +1,3 @@
 pub mod Calls
 pub mod Replays
+pub mod Setups

@@ -3,5 +3,6 @@
 
 mod calls;
 mod replays;
+mod setups;
 mod sizes;
 mod statuses;

@@ -20,3 +20,6 @@ pub const NO_BOARD: u32 = 5;
 
 /// The host's memory ran out.
 pub const NO_MEMORY: u32 = 6;
+
+/// The kind of a bearer, or that of the policy, is a number of none.
+pub const UNKNOWN_KIND: u32 = 7;

@@ -1,5 +1,5 @@
-//! Makes the calls on standard input on the standard receiver, and prints a line for each; or prints, on standard
-//! error, why none was made.
+//! Makes the calls on standard input on a new receiver, over the board and the policy that stand before them or those of
+//! the standard receiver, and prints a line for each; or prints, on standard error, why none was made.
 #![tactic(auto)]
 
 use std::io;

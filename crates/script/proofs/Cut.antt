@@ -1,5 +1,5 @@
 -- A line of words with one space before each but the first is cut into those words.
-use Rattle.std.proofs.Common.{◌≡◌, ◌≢◌, ℕ, ◌-◌, ◌<◌, true, false, not, ◌&&◌, ⊎_elim, eqb, ltb, List, [], ◌∷◌, ◌++◌, length, get_or, take, All, refl, ap, ◌∙◌, append-nil, arith}
+use Rattle.std.proofs.Common.{◌≡◌, ◌≢◌, ℕ, ◌-◌, ◌<◌, true, false, not, ◌&&◌, ⊎_elim, eqb, ltb, List, [], ◌∷◌, ◌++◌, length, get_or, take, All, refl, ap, ◌∙◌, append-nil, append_assoc, arith}
 use Rattle.std.specs.List.{flat_map, filter, list_all, slice_split}
 use Rattle.std.specs.Str.Lines.{strip_carriage_return}
 use Rattle.std.proofs.lemmas.Bool.{and_parts, cases_lt, cond-false, cond-true}
@@ -8,7 +8,8 @@ use Rattle.std.proofs.lemmas.List.{get_or_past, take_all}
 use Rattle.std.proofs.lemmas.List.Elements.{All-nil, All-cons, All-head, All-tail, All-append, All-get_or, All-weaker}
 use Rattle.std.proofs.lemmas.List.Splits.{slice_split_none, slice_split_at}
 use Rattle.std.proofs.lemmas.List.Sums.{prefix_len_is}
-use Rattle.script.specs.Words.{is_blank, is_some_text, words, without_comment}
+use Rattle.script.specs.Words.{is_blank, is_some_text, lines, words, without_comment}
+use Rattle.script.specs.Writing.{line}
 
 -- a byte of a word, which lies past the blanks, the line ends and the `#`
 abbrev pub Plain : ℕ → Type 0
@@ -21,7 +22,7 @@ Inner b = (b ≢ 10) × (b ≢ 13) × (b ≢ 35)
 plain_inner : (b : ℕ) → Plain b → Inner b
 plain_inner b h = (λ e. omega (arith, h, e), λ e. omega (arith, h, e), λ e. omega (arith, h, e))
 
-pub inner_lf : (b : ℕ) → Inner b → eqb b 10 ≡ false
+inner_lf : (b : ℕ) → Inner b → eqb b 10 ≡ false
 inner_lf b h = grind (arith, nat_tests)
 
 inner_hash : (b : ℕ) → Inner b → eqb b 35 ≡ false
@@ -92,7 +93,7 @@ further (w ∷ ws) h =
     (All-cons Inner 32 w space_inner (All-weaker Plain Inner plain_inner w (All-head Word w ws h).plain))
     (further ws (All-tail Word w ws h))
 
-pub inner : (w : List ℕ) (ws : List (List ℕ)) → Word w → All Word ws → All Inner (w ++ flat_map spaced ws)
+inner : (w : List ℕ) (ws : List (List ℕ)) → Word w → All Word ws → All Inner (w ++ flat_map spaced ws)
 inner w ws a h = All-append Inner w (flat_map spaced ws) (All-weaker Plain Inner plain_inner w a.plain) (further ws h)
 
 pub words_of : (w : List ℕ) (ws : List (List ℕ)) → Word w → All Word ws → words (w ++ flat_map spaced ws) ≡ w ∷ ws
@@ -102,3 +103,10 @@ words_of w ws a h =
     ap (λ x. filter is_some_text (slice_split is_blank x)) (ap without_comment (no_return l i) ∙ no_comment l i)
     ∙ ap (filter is_some_text) (cut w ws a h)
     ∙ kept (w ∷ ws) (All-cons Word w ws a h)
+
+-- a line that is written is the first of the lines
+pub line_first : (w : List ℕ) (ws : List (List ℕ)) (more : List ℕ) → Word w → All Word ws → lines (line w ws ++ more) ≡ (w ++ flat_map spaced ws) ∷ lines more
+line_first w ws more a h =
+    let l = w ++ flat_map spaced ws in
+    ap lines (append_assoc l (10 ∷ []) more)
+    ∙ slice_split_at (λ b. eqb b 10) l 10 more (All-weaker Inner (λ b. eqb b 10 ≡ false) inner_lf l (inner w ws a h)) refl

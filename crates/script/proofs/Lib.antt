@@ -5,3 +5,6 @@ pub mod Names
 pub mod Lines
 pub mod Cut
 pub mod ReadsBack
+pub mod Turns
+pub mod ScriptReadsBack
+pub mod Few

@@ -1,12 +1,12 @@
--- The call that the words of a line ask for.
-use Rattle.std.specs.Prelude.{ℕ, ◌^◌, List, [], ◌∷◌, Some, None, Ok, Err, Option, Result, bytes_eq, codes, find, slice_index}
+-- The calls by their names, with the numbers behind these.
+use Rattle.std.specs.Prelude.{ℕ, ◌^◌, List, Result, codes, slice_index}
 use Rattle.machine.specs.declared.calls.Call.{Call}
 use Rattle.machine.specs.declared.calls.Call.TheVariants as calls
 use Rattle.script.specs.declared.faults.Fault.{Fault}
-use Rattle.script.specs.declared.faults.Fault.TheVariants.{UnknownCall}
 use Rattle.script.specs.declared.calls.Name.{Name}
 use Rattle.script.specs.declared.calls.Name.TheVariants.{Configure, Arrive, Step, Work, Fetch, Finish, Discard, Tell}
 use Rattle.script.specs.Numbers.{below, exactly}
+use Rattle.script.specs.Results.{result_map, result_and_then}
 
 abbrev pub spelling : Name → List ℕ
 spelling Configure = codes "configure"
@@ -17,22 +17,6 @@ spelling Fetch = codes "fetch"
 spelling Finish = codes "finish"
 spelling Discard = codes "discard"
 spelling Tell = codes "tell"
-
-abbrev pub names : List Name
-names = Configure ∷ Arrive ∷ Step ∷ Work ∷ Fetch ∷ Finish ∷ Discard ∷ Tell ∷ []
-
-abbrev pub name_of : List ℕ → Option Name
-name_of word = find (λ name. bytes_eq (spelling name) word) names
-
--- what is made of a value, unless there is a fault
-abbrev pub made : {A B : Type 0} → (A → B) → Result A Fault → Result B Fault
-made f (Ok x) = Ok (f x)
-made f (Err fault) = Err fault
-
--- the same, where there may be a fault in the making
-abbrev pub tried : {A B : Type 0} → (A → Result B Fault) → Result A Fault → Result B Fault
-tried f (Ok x) = f x
-tried f (Err fault) = Err fault
 
 abbrev pub configure : List ℕ → Call
 configure ns =
@@ -49,27 +33,18 @@ abbrev pub narrow : ℕ → Result ℕ Fault
 narrow n = below (2 ^ 32) n
 
 abbrev pub arrive : List ℕ → Result Call Fault
-arrive ns = made (calls.Arrive (slice_index ns 0) (slice_index ns 1)) (narrow (slice_index ns 2))
+arrive ns = result_map (calls.Arrive (slice_index ns 0) (slice_index ns 1)) (narrow (slice_index ns 2))
 
 abbrev pub receipt : (ℕ → Call) → List ℕ → Result Call Fault
-receipt f ns = made f (narrow (slice_index ns 0))
+receipt f ns = result_map f (narrow (slice_index ns 0))
 
 -- the call of a name, with the numbers behind it
 abbrev pub call : Name → List (List ℕ) → Result Call Fault
-call Configure words = made configure (exactly 6 words)
-call Arrive words = tried arrive (exactly 3 words)
-call Step words = made (λ ns. calls.Step) (exactly 0 words)
-call Work words = made (λ ns. calls.Work (slice_index ns 0)) (exactly 1 words)
-call Fetch words = made (λ ns. calls.Fetch) (exactly 0 words)
-call Finish words = tried (receipt calls.Finish) (exactly 1 words)
-call Discard words = tried (receipt calls.Discard) (exactly 1 words)
-call Tell words = made (λ ns. calls.Tell) (exactly 0 words)
-
-abbrev pub named : Option Name → List (List ℕ) → Result Call Fault
-named None words = Err UnknownCall
-named (Some name) words = call name words
-
--- a line without words asks for no call
-abbrev pub asked : List (List ℕ) → Result (Option Call) Fault
-asked [] = Ok None
-asked (word ∷ words) = made Some (named (name_of word) words)
+call Configure words = result_map configure (exactly 6 words)
+call Arrive words = result_and_then arrive (exactly 3 words)
+call Step words = result_map (λ ns. calls.Step) (exactly 0 words)
+call Work words = result_map (λ ns. calls.Work (slice_index ns 0)) (exactly 1 words)
+call Fetch words = result_map (λ ns. calls.Fetch) (exactly 0 words)
+call Finish words = result_and_then (receipt calls.Finish) (exactly 1 words)
+call Discard words = result_and_then (receipt calls.Discard) (exactly 1 words)
+call Tell words = result_map (λ ns. calls.Tell) (exactly 0 words)

@@ -1,8 +1,12 @@
 pub mod Answers
 pub mod Calls
+pub mod Keywords
 pub mod Numbers
+pub mod Readings
 pub mod Refusals
+pub mod Results
 pub mod Script
-pub mod Told
+pub mod Setups
+pub mod Texts
 pub mod Words
 pub mod Writing

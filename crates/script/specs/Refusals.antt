@@ -4,7 +4,7 @@ use Rattle.machine.specs.declared.refusals.Refusal.{Refusal}
 use Rattle.machine.specs.declared.refusals.Refusal.TheVariants.{BadSetting, NoShare, NotShown, BadLength, BadWork, NotConfigured, AlreadyConfigured, PacketWaits, Retired, LimitUsed, OnHold, NoneListed, PastPeriod, NoneQueued, AllOut, NotOut}
 use Rattle.machine.specs.Refusals.{number_of, place_of}
 use Rattle.script.specs.declared.faults.Fault.{Fault}
-use Rattle.script.specs.declared.faults.Fault.TheVariants.{UnknownCall, WrongCount, NotANumber, TooLarge}
+use Rattle.script.specs.declared.faults.Fault.TheVariants.{UnknownCall, OutOfPlace, UnknownBearerKind, UnknownPolicyKind, WrongCount, NotANumber, TooLarge, NinthBearer, SecondPolicy}
 use Rattle.script.specs.declared.faults.Unread.{Unread}
 
 -- the rule that a refused call breaks
@@ -26,15 +26,20 @@ rule NoneQueued = codes "the queue is empty"
 rule AllOut = codes "sixteen packets are out"
 rule NotOut = codes "the receipt's number is not out"
 
-abbrev pub refused : Refusal → List ℕ
-refused r = codes "refused " ++ (decimal (number_of r) ++ (codes " place " ++ (decimal (place_of r) ++ (codes ": " ++ rule r))))
+abbrev pub refusal_text : Refusal → List ℕ
+refusal_text r = codes "refused " ++ (decimal (number_of r) ++ (codes " place " ++ (decimal (place_of r) ++ (codes ": " ++ rule r))))
 
 -- what is wrong with a line
-abbrev pub wrong : Fault → List ℕ
-wrong UnknownCall = codes "no call has this name"
-wrong (WrongCount wanted) = codes "the count of numbers is not " ++ decimal wanted
-wrong NotANumber = codes "a number is not digits alone"
-wrong TooLarge = codes "a number is too large"
+abbrev pub fault_text : Fault → List ℕ
+fault_text UnknownCall = codes "no call has this name"
+fault_text OutOfPlace = codes "a call stands before this line"
+fault_text UnknownBearerKind = codes "no kind of bearer has this name"
+fault_text UnknownPolicyKind = codes "no kind of policy has this name"
+fault_text (WrongCount wanted) = codes "the count of numbers is not " ++ decimal wanted
+fault_text NotANumber = codes "a number is not digits alone"
+fault_text TooLarge = codes "a number is too large"
+fault_text NinthBearer = codes "a board shows no more than eight bearers"
+fault_text SecondPolicy = codes "the policy is said already"
 
-abbrev pub unreadable : Unread → List ℕ
-unreadable u = codes "unread " ++ (decimal u.line ++ (codes ": " ++ wrong u.fault))
+abbrev pub unread_text : Unread → List ℕ
+unread_text u = codes "unread " ++ (decimal u.line ++ (codes ": " ++ fault_text u.fault))

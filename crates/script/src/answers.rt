@@ -1,11 +1,11 @@
 ghost use Rattle.std.specs.Prelude.{◌≡◌, IfOk, string_bytes};
-ghost use Rattle.script.specs.Answers.{arrived, stepped, counted, last, told, said};
+ghost use Rattle.script.specs.Answers.{arrival_text, progress_text, counts_text, last_text, report_text, answer_text};
 
 use machine::{Answer, Arrival, Counts, Period, Progress, Report};
 use std::alloc::{AllocError, Global};
 
-fn arrived(alloc: Global, arrival: Arrival) -> Result<String, AllocError>
-    ensures value { IfOk result (λ text. string_bytes text ≡ arrived arrival) }
+fn arrival_text(alloc: Global, arrival: Arrival) -> Result<String, AllocError>
+    ensures value { IfOk result (λ text. string_bytes text ≡ arrival_text arrival) }
 {
     let number = arrival.number;
     if arrival.accepted {
@@ -15,8 +15,8 @@ fn arrived(alloc: Global, arrival: Arrival) -> Result<String, AllocError>
     }
 }
 
-fn stepped(alloc: Global, progress: Progress) -> Result<String, AllocError>
-    ensures value { IfOk result (λ text. string_bytes text ≡ stepped progress) }
+fn progress_text(alloc: Global, progress: Progress) -> Result<String, AllocError>
+    ensures value { IfOk result (λ text. string_bytes text ≡ progress_text progress) }
 {
     match progress {
         Progress::Begun { bearer, quota } => format!(in alloc; "begun {bearer} quota {quota}"),
@@ -33,8 +33,8 @@ fn stepped(alloc: Global, progress: Progress) -> Result<String, AllocError>
     }
 }
 
-fn counted(alloc: Global, counts: Counts) -> Result<String, AllocError>
-    ensures value { IfOk result (λ text. string_bytes text ≡ counted counts) }
+fn counts_text(alloc: Global, counts: Counts) -> Result<String, AllocError>
+    ensures value { IfOk result (λ text. string_bytes text ≡ counts_text counts) }
 {
     let Counts {
         numbered,
@@ -48,8 +48,8 @@ fn counted(alloc: Global, counts: Counts) -> Result<String, AllocError>
     )
 }
 
-fn last(alloc: Global, period: Option<Period>) -> Result<String, AllocError>
-    ensures value { IfOk result (λ text. string_bytes text ≡ last period) }
+fn last_text(alloc: Global, period: Option<Period>) -> Result<String, AllocError>
+    ensures value { IfOk result (λ text. string_bytes text ≡ last_text period) }
 {
     match period {
         Some(Period { offered, network }) => format!(in alloc;
@@ -59,23 +59,23 @@ fn last(alloc: Global, period: Option<Period>) -> Result<String, AllocError>
     }
 }
 
-fn told(alloc: Global, report: Report) -> Result<String, AllocError>
-    ensures value { IfOk result (λ text. string_bytes text ≡ told report) }
+fn report_text(alloc: Global, report: Report) -> Result<String, AllocError>
+    ensures value { IfOk result (λ text. string_bytes text ≡ report_text report) }
 {
-    let counts = counted(alloc, report.counts)?;
+    let counts = counts_text(alloc, report.counts)?;
     let closed = report.closed;
-    let last = last(alloc, report.last)?;
+    let last = last_text(alloc, report.last)?;
     format!(in alloc; "told {counts} closed {closed}{last}")
 }
 
 /// What was answered, as one line without its end.
 pub fn answer(alloc: Global, answer: Answer) -> Result<String, AllocError>
-    ensures value { IfOk result (λ text. string_bytes text ≡ said answer) }
+    ensures value { IfOk result (λ text. string_bytes text ≡ answer_text answer) }
 {
     match answer {
         Answer::Configured => String::from_str(alloc, "configured"),
-        Answer::Arrived(arrival) => arrived(alloc, arrival),
-        Answer::Stepped(progress) => stepped(alloc, progress),
+        Answer::Arrived(arrival) => arrival_text(alloc, arrival),
+        Answer::Stepped(progress) => progress_text(alloc, progress),
         Answer::Worked => String::from_str(alloc, "worked"),
         Answer::Fetched(packet) => {
             let number = packet.number;
@@ -85,6 +85,6 @@ pub fn answer(alloc: Global, answer: Answer) -> Result<String, AllocError>
         }
         Answer::Finished => String::from_str(alloc, "finished"),
         Answer::Discarded => String::from_str(alloc, "discarded"),
-        Answer::Told(report) => told(alloc, report),
+        Answer::Told(report) => report_text(alloc, report),
     }
 }

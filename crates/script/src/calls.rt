@@ -1,11 +1,11 @@
 ghost use Rattle.std.specs.Prelude.{◌≡◌, map};
-ghost use Rattle.script.specs.Calls.{spelling, name_of, configure, arrive, call, asked};
+ghost use Rattle.script.specs.Calls.{spelling, configure, arrive, call};
 
 use crate::faults::Fault;
 use crate::numbers::{narrow, numbers};
 use machine::{Call, RawSettings};
 
-/// The name of a call, which is the first word of its line.
+/// The name of a call.
 #[derive(Clone, Copy)]
 pub(crate) enum Name {
     Configure,
@@ -18,19 +18,8 @@ pub(crate) enum Name {
     Tell,
 }
 
-const NAMES: [Name; 8] = [
-    Name::Configure,
-    Name::Arrive,
-    Name::Step,
-    Name::Work,
-    Name::Fetch,
-    Name::Finish,
-    Name::Discard,
-    Name::Tell,
-];
-
 impl Name {
-    fn text(self) -> &'static str
+    pub(crate) fn text(self) -> &'static str
         ensures value { result.now ≡ spelling self }
     {
         match self {
@@ -45,18 +34,8 @@ impl Name {
         }
     }
 
-    fn of(word: &[u8]) -> Option<Name>
-        ensures value { result ≡ name_of word.now }
-    {
-        // Not a match: of an arm of bytes the check knows the length alone.
-        NAMES
-            .iter()
-            .find(|name| name.text().as_bytes() == word)
-            .copied()
-    }
-
     /// The call of this name, with the numbers that the words behind it write.
-    fn call(self, words: &[&[u8]]) -> Result<Call, Fault>
+    pub(crate) fn call(self, words: &[&[u8]]) -> Result<Call, Fault>
         ensures value { result ≡ call self (map (λ w. w.now) words.now) }
     {
         Ok(match self {
@@ -113,15 +92,4 @@ fn arrive(numbers: [u64; 3]) -> Result<Call, Fault>
         length: length as usize,
         tag: narrow(tag)?,
     })
-}
-
-/// The call that the words of a line ask for, if there are any.
-pub(crate) fn asked(words: &[&[u8]]) -> Result<Option<Call>, Fault>
-    ensures value { result ≡ asked (map (λ w. w.now) words.now) }
-{
-    let [name, numbers @ ..] = words else {
-        return Ok(None);
-    };
-    let name = Name::of(name).ok_or(Fault::UnknownCall)?;
-    name.call(numbers).map(Some)
 }

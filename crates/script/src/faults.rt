@@ -6,14 +6,24 @@ use std::alloc::{AllocError, AllocFailed};
 /// What is wrong with a line.
 #[derive(Clone, Copy, PartialEq, Eq, Debug)]
 pub enum Fault {
-    /// The first word is that of no call.
+    /// The first word is neither `bearer` nor `policy`, and no call is named so.
     UnknownCall,
-    /// The call takes so many numbers, and the line has more or fewer.
+    /// The line says something of the board or the policy where none may: behind a call, or among calls alone.
+    OutOfPlace,
+    /// The second word is that of no kind of bearer.
+    UnknownBearerKind,
+    /// The second word is that of no kind of policy.
+    UnknownPolicyKind,
+    /// The call or the kind takes so many numbers, and the line has more or fewer.
     WrongCount { wanted: usize },
     /// A word where a number should stand is not digits alone.
     NotANumber,
-    /// A number is larger than the call takes.
+    /// A number is larger than the call or the kind takes.
     TooLarge,
+    /// It would be the ninth bearer.
+    NinthBearer,
+    /// A line before it says the policy.
+    SecondPolicy,
 }
 
 /// The first line that cannot be read.
@@ -24,7 +34,7 @@ pub struct Unread {
     pub fault: Fault,
 }
 
-/// Why no calls came: a line cannot be read, or memory ran out, which says nothing of the text.
+/// Why nothing came: a line cannot be read, or memory ran out, which says nothing of the text.
 #[derive(Clone, Copy, PartialEq, Eq, Debug)]
 pub enum ReadError {
     Unread(Unread),

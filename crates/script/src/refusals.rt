@@ -1,5 +1,5 @@
 ghost use Rattle.std.specs.Prelude.{◌≡◌, IfOk, string_bytes};
-ghost use Rattle.script.specs.Refusals.{rule, refused, wrong, unreadable};
+ghost use Rattle.script.specs.Refusals.{rule, refusal_text, fault_text, unread_text};
 
 use crate::faults::{Fault, Unread};
 use machine::Refusal;
@@ -34,7 +34,7 @@ fn rule(refusal: Refusal) -> &'static str
 
 /// What was refused, as one line without its end: number, place, and the rule.
 pub fn refusal(alloc: Global, refusal: Refusal) -> Result<String, AllocError>
-    ensures value { IfOk result (λ text. string_bytes text ≡ refused refusal) }
+    ensures value { IfOk result (λ text. string_bytes text ≡ refusal_text refusal) }
 {
     let number = refusal.number();
     let place = refusal.place();
@@ -43,24 +43,31 @@ pub fn refusal(alloc: Global, refusal: Refusal) -> Result<String, AllocError>
 }
 
 /// What is wrong with a line.
-fn wrong(alloc: Global, fault: Fault) -> Result<String, AllocError>
-    ensures value { IfOk result (λ text. string_bytes text ≡ wrong fault) }
+fn fault_text(alloc: Global, fault: Fault) -> Result<String, AllocError>
+    ensures value { IfOk result (λ text. string_bytes text ≡ fault_text fault) }
 {
     match fault {
         Fault::UnknownCall => String::from_str(alloc, "no call has this name"),
+        Fault::OutOfPlace => String::from_str(alloc, "a call stands before this line"),
+        Fault::UnknownBearerKind => String::from_str(alloc, "no kind of bearer has this name"),
+        Fault::UnknownPolicyKind => String::from_str(alloc, "no kind of policy has this name"),
         Fault::WrongCount { wanted } => {
             format!(in alloc; "the count of numbers is not {wanted}")
         }
         Fault::NotANumber => String::from_str(alloc, "a number is not digits alone"),
         Fault::TooLarge => String::from_str(alloc, "a number is too large"),
+        Fault::NinthBearer => {
+            String::from_str(alloc, "a board shows no more than eight bearers")
+        }
+        Fault::SecondPolicy => String::from_str(alloc, "the policy is said already"),
     }
 }
 
 /// What is said of a line that cannot be read, as one line without its end: its number, and what is wrong.
 pub fn unread(alloc: Global, unread: Unread) -> Result<String, AllocError>
-    ensures value { IfOk result (λ text. string_bytes text ≡ unreadable unread) }
+    ensures value { IfOk result (λ text. string_bytes text ≡ unread_text unread) }
 {
     let line = unread.line;
-    let wrong = wrong(alloc, unread.fault)?;
-    format!(in alloc; "unread {line}: {wrong}")
+    let fault = fault_text(alloc, unread.fault)?;
+    format!(in alloc; "unread {line}: {fault}")
 }

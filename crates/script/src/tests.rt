@@ -4,14 +4,31 @@ use board::Packet;
 use machine::{
     Answer, Arrival, Call, Counts, Period, Progress, RawSettings, Refusal, Report, Setting,
 };
+use setup::{BearerKind, BearerSetup, PolicySetup};
 use std::alloc::{AllocError, Global};
 use std::test::Fail;
 
-/// The one line that cannot be read, and what is wrong with it.
+/// The one line of a text of calls that cannot be read, and what is wrong with it.
 fn fault(alloc: Global, text: &[u8]) -> Option<(usize, Fault)> {
     match read(alloc, text) {
         Err(ReadError::Unread(Unread { line, fault })) => Some((line, fault)),
         _ => None,
+    }
+}
+
+/// The same of a script.
+fn script_fault(alloc: Global, text: &[u8]) -> Option<(usize, Fault)> {
+    match read_script(alloc, text) {
+        Err(ReadError::Unread(Unread { line, fault })) => Some((line, fault)),
+        _ => None,
+    }
+}
+
+fn bearer(kind: BearerKind, depth: usize) -> BearerSetup {
+    BearerSetup {
+        kind,
+        depth,
+        is_occupied: false,
     }
 }
 
@@ -57,7 +74,7 @@ fn blanks_and_comments(rt: HostRuntime) -> Result<(), Fail> {
 #[test]
 fn faults(rt: HostRuntime) {
     let alloc = rt.alloc();
-    let cases: [(&[u8], usize, Fault); 12] = [
+    let cases: [(&[u8], usize, Fault); 14] = [
         (b"begin", 1, Fault::UnknownCall),
         (b"step\n# step\n\nStep\nbegin", 4, Fault::UnknownCall),
         (b"step\rtell", 1, Fault::UnknownCall),
@@ -70,10 +87,77 @@ fn faults(rt: HostRuntime) {
         (b"finish +1", 1, Fault::NotANumber),
         (b"discard 1\ndiscard 1x", 2, Fault::NotANumber),
         (b"arrive 99999999999999999999 x 1", 1, Fault::TooLarge),
+        (b"bearer ring 8", 1, Fault::OutOfPlace),
+        (b"policy\nbegin", 1, Fault::OutOfPlace),
     ];
     for (text, line, wrong) in cases {
         assert_eq!(rt; fault(alloc, text), Some((line, wrong)));
     }
+}
+
+#[test]
+fn board_and_policy(rt: HostRuntime) -> Result<(), Fail> {
+    let alloc = rt.alloc();
+    let text =
+        b"# Two bearers.\nbearer ring 8\r\n\tpolicy  fixed 0 # cut\n\nbearer mailbox 18446744073709551615\nstep\ntell";
+    let script = read_script(alloc, text)?;
+    let bearers = [
+        bearer(BearerKind::Ring, 8),
+        bearer(BearerKind::Mailbox, 18_446_744_073_709_551_615),
+    ];
+    assert!(rt; script.bearers.as_slice() == bearers.as_slice());
+    assert!(rt; script.policy == Some(PolicySetup::Fixed { figure: 0 }));
+    assert!(rt; script.calls.as_slice() == [Call::Step, Call::Tell].as_slice());
+
+    let script = read_script(alloc, b"policy backlog")?;
+    assert!(rt; script.policy == Some(PolicySetup::Backlog));
+    assert!(rt; script.bearers.is_empty());
+
+    let script = read_script(alloc, b"step\n")?;
+    assert!(rt; script.policy == None);
+    assert!(rt; script.calls.as_slice() == [Call::Step].as_slice());
+    Ok(())
+}
+
+#[test]
+fn script_faults(rt: HostRuntime) {
+    let alloc = rt.alloc();
+    let cases: [(&[u8], usize, Fault); 16] = [
+        (b"bearer ring 8\nBearer ring 8", 2, Fault::UnknownCall),
+        (b"tell\n\nbearer ring 8", 3, Fault::OutOfPlace),
+        (b"policy backlog\nstep\npolicy", 3, Fault::OutOfPlace),
+        (b"bearer", 1, Fault::UnknownBearerKind),
+        (b"bearer fixed", 1, Fault::UnknownBearerKind),
+        (b"policy", 1, Fault::UnknownPolicyKind),
+        (b"policy ring 8", 1, Fault::UnknownPolicyKind),
+        (b"bearer ring", 1, Fault::WrongCount { wanted: 1 }),
+        (b"bearer mailbox 4 x", 1, Fault::WrongCount { wanted: 1 }),
+        (b"policy fixed", 1, Fault::WrongCount { wanted: 1 }),
+        (b"policy backlog x", 1, Fault::WrongCount { wanted: 0 }),
+        (b"bearer ring -1", 1, Fault::NotANumber),
+        (b"policy fixed 18446744073709551616", 1, Fault::TooLarge),
+        (b"policy backlog\npolicy backlog", 2, Fault::SecondPolicy),
+        (b"policy backlog\npolicy fixed x", 2, Fault::NotANumber),
+        (b"work 1\nwork", 2, Fault::WrongCount { wanted: 1 }),
+    ];
+    for (text, line, wrong) in cases {
+        assert_eq!(rt; script_fault(alloc, text), Some((line, wrong)));
+    }
+}
+
+#[test]
+fn most_bearers(rt: HostRuntime) -> Result<(), Fail> {
+    let alloc = rt.alloc();
+    let mut text = Vec::new(alloc);
+    for _ in 0..8 {
+        text.extend_from_slice(b"bearer ring 1\n")?;
+    }
+    assert_eq!(rt; read_script(alloc, &text)?.bearers.len(), 8);
+    text.extend_from_slice(b"bearer ring 1")?;
+    assert_eq!(rt; script_fault(alloc, &text), Some((9, Fault::NinthBearer)));
+    text.push(b'x')?;
+    assert_eq!(rt; script_fault(alloc, &text), Some((9, Fault::NotANumber)));
+    Ok(())
 }
 
 #[test]
@@ -187,11 +271,41 @@ fn refusals(rt: HostRuntime) -> Result<(), Fail> {
     assert!(rt; text.as_str() == "refused 1 place 5: the setting is outside its range");
     let text = refusal(alloc, Refusal::NotOut)?;
     assert!(rt; text.as_str() == "refused 30 place 0: the receipt's number is not out");
-    let wrong = Unread {
-        line: 3,
-        fault: Fault::WrongCount { wanted: 6 },
-    };
-    let text = unread(alloc, wrong)?;
-    assert!(rt; text.as_str() == "unread 3: the count of numbers is not 6");
+    Ok(())
+}
+
+#[test]
+fn unread_lines(rt: HostRuntime) -> Result<(), Fail> {
+    let alloc = rt.alloc();
+    let cases = [
+        (Fault::UnknownCall, "unread 3: no call has this name"),
+        (
+            Fault::OutOfPlace,
+            "unread 3: a call stands before this line",
+        ),
+        (
+            Fault::UnknownBearerKind,
+            "unread 3: no kind of bearer has this name",
+        ),
+        (
+            Fault::UnknownPolicyKind,
+            "unread 3: no kind of policy has this name",
+        ),
+        (
+            Fault::WrongCount { wanted: 6 },
+            "unread 3: the count of numbers is not 6",
+        ),
+        (Fault::NotANumber, "unread 3: a number is not digits alone"),
+        (Fault::TooLarge, "unread 3: a number is too large"),
+        (
+            Fault::NinthBearer,
+            "unread 3: a board shows no more than eight bearers",
+        ),
+        (Fault::SecondPolicy, "unread 3: the policy is said already"),
+    ];
+    for (fault, expected) in cases {
+        let text = unread(alloc, Unread { line: 3, fault })?;
+        assert!(rt; text.as_str() == expected);
+    }
     Ok(())
 }

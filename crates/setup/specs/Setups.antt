@@ -1,41 +1,34 @@
--- A board and a policy that a host gives by numbers.
-use Rattle.std.specs.Prelude.{Bool, cond, ◌&&◌, List, [], length, min, nat_le, nat_lt, Some, None, Option}
+-- Boards and policies by their kinds.
+use Rattle.std.specs.Prelude.{ℕ, Bool, cond, ◌&&◌, List, length, min, nat_le, nat_lt}
 use Rattle.board.specs.Bearers.{Bearer, after_offer}
 use Rattle.board.specs.declared.packets.Packet.{Packet}
 use Rattle.machine.specs.Standard.{ring, mailbox}
 use Rattle.policy.specs.Batches.{Batches}
 use Rattle.policy.specs.Quotas.{backlog_quota, cut_figure}
-use Rattle.receiver.specs.Receivers.{batches}
-use Rattle.setup.specs.declared.boards.RawBearer.{RawBearer}
-use Rattle.setup.specs.declared.runs.RawPolicy.{RawPolicy}
-use Rattle.setup.specs.declared.eithers.Either.{Either}
-use Rattle.setup.specs.declared.eithers.Either.TheVariants.{First, Second}
-
--- the bearers of a board that is of one type or of another
-abbrev pub shown_by : {A B : Type 0} → (A → List Bearer) → (B → List Bearer) → Either A B → List Bearer
-shown_by first second (First a) = first a
-shown_by first second (Second b) = second b
-
--- the bearers of a board, if there is one
-abbrev pub shown : {B : Type 0} → (B → List Bearer) → Option B → List Bearer
-shown bearers None = []
-shown bearers (Some b) = bearers b
+use Rattle.setup.specs.declared.setups.BearerKind.{BearerKind}
+use Rattle.setup.specs.declared.setups.BearerKind.TheVariants.{Ring, Mailbox}
+use Rattle.setup.specs.declared.setups.BearerSetup.{BearerSetup}
+use Rattle.setup.specs.declared.setups.PolicySetup.{PolicySetup}
+use Rattle.setup.specs.declared.setups.PolicySetup.TheVariants.{Fixed, Backlog}
 
 -- the packet that waits in an occupied bearer
 abbrev pub waiting : Packet
 waiting = record { number = 0; length = 1; tag = 0 }
 
--- a bearer just put up, and then with the packet that waits in it, if there is room
-abbrev pub empty : RawBearer → Bearer
-empty n = cond n.is_mailbox (mailbox (min 16 n.depth)) (ring (min 256 n.depth))
+-- a bearer just put up, of a kind and with a depth asked for
+abbrev pub empty : BearerKind → ℕ → Bearer
+empty Ring depth = ring (min 256 depth)
+empty Mailbox depth = mailbox (min 16 depth)
 
-abbrev pub bearer_of : RawBearer → Bearer
-bearer_of n = cond n.is_occupied (after_offer waiting (empty n)) (empty n)
+-- and then with the packet that waits in it, if there is room
+abbrev pub bearer_of : BearerSetup → Bearer
+bearer_of s = cond s.is_occupied (after_offer waiting (empty s.kind s.depth)) (empty s.kind s.depth)
 
 -- a board shows one to eight bearers
-abbrev pub is_board : List RawBearer → Bool
-is_board ns = nat_lt 0 (length ns) && nat_le (length ns) 8
+abbrev pub is_board : {S : Type 0} → List S → Bool
+is_board bearers = nat_lt 0 (length bearers) && nat_le (length bearers) 8
 
--- a policy that a host gives by numbers
-abbrev pub batches_of : RawPolicy → Batches
-batches_of n = cond n.is_backlog (batches (λ b w. backlog_quota w) 8) (batches (λ b w. cut_figure n.figure) 16)
+-- what a policy means
+abbrev pub batches_of : PolicySetup → Batches
+batches_of (Fixed figure) = record { quota = λ b w. cut_figure figure; greatest = 16 }
+batches_of Backlog = record { quota = λ b w. backlog_quota w; greatest = 8 }

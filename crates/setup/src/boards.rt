@@ -1,23 +1,35 @@
-ghost use Rattle.std.specs.Prelude.{◌≡◌, ◌≤◌, [], ◌∷◌, drop, length, map};
-ghost use Rattle.setup.specs.Setups.{bearer_of, shown};
+ghost use Rattle.std.specs.Prelude.{◌≡◌, ◌≤◌, false, true, [], ◌∷◌, drop, length, map, MatchOption};
+ghost use Rattle.setup.specs.Boards.{shown};
+ghost use Rattle.setup.specs.Setups.{bearer_of, is_board};
 
-use crate::eithers::Either;
+use crate::bearers::AnyBearer;
+use crate::nested::Before;
+use crate::setups::{BearerKind, BearerSetup};
 use board::{Board, MailboxBearer, Packet, Pair, RingBearer};
 
 /// No board shows more bearers than this.
-pub(crate) const MOST_BEARERS: usize = 8;
+const MOST_BEARERS: usize = 8;
 
 /// No ring bearer uses more slots than this.
-const SLOTS: usize = 256;
+const MOST_SLOTS: usize = 256;
 
-type Slots = [Packet; SLOTS];
+type BearerSlots = [Packet; MOST_SLOTS];
 
-/// Slots in which no packet has been.
-pub(crate) const NO_PACKETS: Slots = [Packet {
+type FourSlots = (BearerSlots, BearerSlots, BearerSlots, BearerSlots);
+
+/// The slots of a board's ring bearers: as many for each bearer as a ring bearer can use.
+pub type Slots = (FourSlots, FourSlots);
+
+const BLANK: BearerSlots = [Packet {
     number: 0,
     length: 0,
     tag: 0,
-}; SLOTS];
+}; MOST_SLOTS];
+
+const FOUR_BLANK: FourSlots = (BLANK, BLANK, BLANK, BLANK);
+
+/// Slots in which no packet has been.
+pub const NO_PACKETS: Slots = (FOUR_BLANK, FOUR_BLANK);
 
 /// The packet that waits in an occupied bearer.
 const WAITING: Packet = Packet {
@@ -26,33 +38,21 @@ const WAITING: Packet = Packet {
     tag: 0,
 };
 
-/// A bearer of a board, by its numbers.
-#[repr(C)]
-#[derive(Clone, Copy, PartialEq, Eq, Debug)]
-pub struct RawBearer {
-    /// As asked for: the kind cuts it.
-    pub depth: usize,
-    /// A mailbox bearer, and otherwise a ring bearer.
-    pub is_mailbox: bool,
-    /// Whether a packet waits in it, if there is room for one, before a receiver is put up.
-    pub is_occupied: bool,
-}
-
-pub(crate) type AnyBearer<'a> = Either<RingBearer<'a>, MailboxBearer>;
-
-/// A bearer alone, or before the others of a board.
-type Before<'a, B> = Either<AnyBearer<'a>, Pair<AnyBearer<'a>, B>>;
-
 type FourBefore<'a, B> = Before<'a, Before<'a, Before<'a, Before<'a, B>>>>;
 
+/// A board of one to eight bearers, each of any kind: nested pairs, each bearer before all behind it.
+pub type AnyBoard<'a> = FourBefore<'a, FourBefore<'a, AnyBearer<'a>>>;
+
 /// A bearer just put up, with the packet that waits in it.
-fn put_up<'a>(bearer: RawBearer, slots: &'a mut Slots) -> AnyBearer<'a>
+fn put_up_one<'a>(bearer: BearerSetup, slots: &'a mut BearerSlots) -> AnyBearer<'a>
     ensures value { ⟦<AnyBearer<'a> as Board>⟧.bearers result ≡ bearer_of bearer ∷ [] }
 {
-    let mut board = if bearer.is_mailbox {
-        Either::Second(MailboxBearer::new(bearer.depth))
-    } else {
-        Either::First(RingBearer::new(&mut slots[..bearer.depth.min(SLOTS)]))
+    let mut board = match bearer.kind {
+        BearerKind::Ring => {
+            let depth = bearer.depth.min(MOST_SLOTS);
+            AnyBearer::Ring(RingBearer::new(&mut slots[..depth]))
+        }
+        BearerKind::Mailbox => AnyBearer::Mailbox(MailboxBearer::new(bearer.depth)),
     };
     if bearer.is_occupied {
         // Where there is no room, none waits.
@@ -63,40 +63,51 @@ fn put_up<'a>(bearer: RawBearer, slots: &'a mut Slots) -> AnyBearer<'a>
 
 /// Puts up the first of the bearers before the others, which may be none. Without a first there is no board.
 fn put_before<'a, B: Board + Drop>(
-    bearers: &[RawBearer],
-    slots: &'a mut Slots,
+    bearers: &[BearerSetup],
+    slots: &'a mut BearerSlots,
     others: Option<B>,
 ) -> Option<Before<'a, B>>
     requires few { length bearers.now ≤ MOST_BEARERS }
     requires others { shown B.bearers others ≡ map bearer_of (drop 1 bearers.now) }
     ensures value { shown ⟦<Before<'a, B> as Board>⟧.bearers result ≡ map bearer_of bearers.now }
 {
-    let first = put_up(*bearers.first()?, slots);
+    let first = put_up_one(*bearers.first()?, slots);
     Some(match others {
-        None => Either::First(first),
-        Some(others) => Either::Second(Pair(first, others)),
+        None => Before::Alone(first),
+        Some(others) => Before::Others(Pair(first, others)),
     })
 }
 
 /// As `put_before`, of the first four.
-pub(crate) fn put_four_before<'a, B: Board + Drop>(
-    bearers: &[RawBearer],
-    slots: (&'a mut Slots, &'a mut Slots, &'a mut Slots, &'a mut Slots),
+fn put_four_before<'a, B: Board + Drop>(
+    bearers: &[BearerSetup],
+    slots: &'a mut FourSlots,
     others: Option<B>,
 ) -> Option<FourBefore<'a, B>>
     requires few { length bearers.now ≤ MOST_BEARERS }
     requires others { shown B.bearers others ≡ map bearer_of (drop 4 bearers.now) }
     ensures value { shown ⟦<FourBefore<'a, B> as Board>⟧.bearers result ≡ map bearer_of bearers.now }
 {
-    let others = put_before(from(bearers, 3), slots.3, others);
-    let others = put_before(from(bearers, 2), slots.2, others);
-    let others = put_before(from(bearers, 1), slots.1, others);
-    put_before(bearers, slots.0, others)
+    let others = put_before(from(bearers, 3), &mut slots.3, others);
+    let others = put_before(from(bearers, 2), &mut slots.2, others);
+    let others = put_before(from(bearers, 1), &mut slots.1, others);
+    put_before(bearers, &mut slots.0, others)
 }
 
 /// The bearers from a number on.
-pub(crate) fn from(bearers: &[RawBearer], number: usize) -> &[RawBearer]
+fn from(bearers: &[BearerSetup], number: usize) -> &[BearerSetup]
     ensures value { result.now ≡ drop number bearers.now }
 {
     bearers.get(number..).unwrap_or(&[])
+}
+
+/// Puts up a board of these bearers, or none, where they are none or too many for a board.
+pub fn put_up<'a>(bearers: &[BearerSetup], slots: &'a mut Slots) -> Option<AnyBoard<'a>>
+    ensures value { MatchOption result (is_board bearers.now ≡ false) (λ board. (is_board bearers.now ≡ true) × (⟦<AnyBoard<'a> as Board>⟧.bearers board ≡ map bearer_of bearers.now)) }
+{
+    if bearers.len() > MOST_BEARERS {
+        return None;
+    }
+    let last = put_four_before(from(bearers, 4), &mut slots.1, None::<AnyBearer>);
+    put_four_before(bearers, &mut slots.0, last)
 }

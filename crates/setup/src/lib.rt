@@ -1,9 +1,12 @@
-//! Receivers over boards and policies that a host gives by plain numbers, so that they are known only when it runs.
+//! Boards and policies of kinds that are known only when a program runs.
 #![tactic(auto)]
 
+mod bearers;
 mod boards;
-mod eithers;
-mod runs;
+mod nested;
+mod setups;
 
-pub use boards::RawBearer;
-pub use runs::{RawPolicy, run_on};
+pub use bearers::AnyBearer;
+pub use boards::{AnyBoard, NO_PACKETS, Slots, put_up};
+pub use nested::Before;
+pub use setups::{BearerKind, BearerSetup, PolicySetup, fixed};

@@ -1,6 +1,6 @@
 -- Why a text of calls has no answers.
 use Rattle.std.specs.Prelude.{ℕ, List, codes}
-use Rattle.script.specs.Refusals.{unreadable}
+use Rattle.script.specs.Refusals.{unread_text}
 use Rattle.script.specs.declared.faults.ReadError.{ReadError}
 use Rattle.script.specs.declared.faults.ReadError.TheVariants as error
 use Rattle.transcript.specs.declared.failures.Failure.{Failure}
@@ -14,5 +14,5 @@ failed error.NoMemory = NoMemory
 -- what is said of that
 abbrev pub because : Failure → List ℕ
 because TooLong = codes "the text is above 1048576 bytes"
-because (Unread u) = unreadable u
+because (Unread u) = unread_text u
 because NoMemory = codes "out of memory"

@@ -4,8 +4,12 @@
 mod failures;
 mod lines;
 mod runs;
+mod scripts;
 #[cfg(test)]
 mod tests;
+mod texts;
 
 pub use failures::{Failure, reason};
-pub use runs::{LONGEST, run, run_over};
+pub use runs::{run_on, run_over};
+pub use scripts::run;
+pub use texts::LONGEST;

@@ -7,10 +7,10 @@ use Rattle.machine.specs.declared.calls.Call.{Call}
 use Rattle.script.specs.declared.faults.Fault.{Fault}
 use Rattle.script.specs.declared.faults.ReadError.TheVariants.{Unread}
 use Rattle.script.specs.Words.{lines, words}
-use Rattle.script.specs.Calls.{asked}
+use Rattle.script.specs.Keywords.{call_of}
 use Rattle.script.proofs.ReadsBack.{answers}
-use Rattle.script.proofs.Lines.{Next, all_read, asking, next_by_item, refused, no_call, one_call}
-use Rattle.script.proofs.entry.read.Goals.{In-Some, After-asked}
+use Rattle.script.proofs.Lines.{Next, all_read, next_by_item, no_call, of_words, one_call, refused}
+use Rattle.script.proofs.entry.read.Goals.{In-Some, After-call_of}
 use Rattle.script.proofs.entry.read.Goals as goal
 
 next : (c : In-Some) → Next (lines c.args.text.now) (length c.loop-index.yielded) c.in-Some.index c.in-Some.line.now
@@ -25,20 +25,20 @@ next c =
     c.loop-index.yielded _ c.loop-index.yielded_by _ _ _ c.in-Some.is c.next.ensures.steps)
 
 -- what the line at hand asks for
-asks : (c : After-asked) (q : Result (Option Call) Fault) → c.asked.result ≡ q → asked (words c.in-Some.line.now) ≡ q
-asks c q e = asking _ _ c.in-Some.line.now _ q c.asked.ensures.value c.deref.ensures.value c.in_ok-words.ensures.value e
+asks : (c : After-call_of) (q : Result (Option Call) Fault) → c.call_of.result ≡ q → call_of (words c.in-Some.line.now) ≡ q
+asks c q e = of_words call_of _ _ c.in-Some.line.now _ q c.call_of.ensures.value c.deref.ensures.value c.in_ok-words.ensures.value e
 
 pub returns-in-Err : goal.returns-in-Err
 returns-in-Err c =
     let t = next (goal.at.returns-in-Err c).In-Some in
-    let a = asks (goal.at.returns-in-Err c).After-asked (Err c.in-Err.fault) c.in-Err.is in
+    let a = asks (goal.at.returns-in-Err c).After-call_of (Err c.in-Err.fault) c.in-Err.is in
     answers c.args.text.now (Err (Unread (record { line = c.in-Some.index + 1; fault = c.in-Err.fault })))
     (refused _ _ (lines c.args.text.now) _ c.loop-index.invariant _ _ t c.in-Err.fault a)
 
 pub loop-index-preserved : goal.loop-index-preserved
 loop-index-preserved c =
     let t = next (goal.at.loop-index-preserved c).In-Some in
-    let a = asks (goal.at.loop-index-preserved c).After-asked (Ok None) (c.in-Ok.is ∙ ap Ok c.in_default.is) in
+    let a = asks (goal.at.loop-index-preserved c).After-call_of (Ok None) (c.in-Ok.is ∙ ap Ok c.in_default.is) in
     rw (length_push c.loop-index.yielded (c.in-Some.index, c.in-Some.line))
     (no_call _ _ (lines c.args.text.now) _ c.loop-index.invariant _ _ t a)
 
@@ -46,7 +46,7 @@ pub loop-index-preserved-in_ok-push : goal.loop-index-preserved-in_ok-push
 loop-index-preserved-in_ok-push c =
     let t = next (goal.at.loop-index-preserved-in_ok-push c).In-Some in
     let x = c.in-Some-call in
-    let a = asks (goal.at.loop-index-preserved-in_ok-push c).After-asked (Ok (Some x.call)) (c.in-Ok.is ∙ ap Ok x.is) in
+    let a = asks (goal.at.loop-index-preserved-in_ok-push c).After-call_of (Ok (Some x.call)) (c.in-Ok.is ∙ ap Ok x.is) in
     rw (length_push c.loop-index.yielded (c.in-Some.index, c.in-Some.line), c.in_ok-push.ensures.items)
     (one_call _ _ (lines c.args.text.now) _ c.loop-index.invariant _ _ t x.call a)
 

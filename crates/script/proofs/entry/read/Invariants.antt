@@ -1,6 +1,6 @@
 use Rattle.std.proofs.Common.{◌≡◌, ◌+◌, length, drop, vec_items}
 use Rattle.script.specs.Words.{lines}
-use Rattle.script.specs.Script.{ahead, from_line, meaning}
+use Rattle.script.specs.Texts.{ahead, from_line, meaning}
 use Rattle.script.proofs.entry.read.Given as goal
 
 -- what is read so far, and then the rest
