@@ -4,10 +4,8 @@ ghost use Rattle.std.specs.Prelude.{◌≡◌, ◌≤◌, length, take};
 ghost use Rattle.std.specs.Option.{option_map};
 ghost use Rattle.boundary.specs.Setups.{kind_of, policy_of, setup_of, setups_of};
 
+use board::MOST_BEARERS;
 use setup::{BearerKind, BearerSetup, PolicySetup};
-
-/// No board shows more bearers than this.
-pub(crate) const MOST_BEARERS: usize = 8;
 
 /// What stands where no bearer was put yet.
 const BLANK: BearerSetup = BearerSetup {

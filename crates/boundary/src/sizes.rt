@@ -1,13 +1,11 @@
 ghost use Rattle.std.specs.Prelude.{◌≡◌};
 
-use board::{MailboxBearer, Pair, RingBearer};
 use policy::Fixed;
 use receiver::Receiver;
+use standard::StandardBoard;
 use std::mem::size_of;
 
-type StandardBoard = Pair<RingBearer<'static>, Pair<MailboxBearer, RingBearer<'static>>>;
-
-const RECEIVER: usize = size_of::<Receiver<StandardBoard, Fixed>>();
+const RECEIVER: usize = size_of::<Receiver<StandardBoard<'static>, Fixed>>();
 
 /// How many bytes the standard receiver has, with its board and its policy, but without the slots of the ring bearers.
 #[unsafe(no_mangle)]

@@ -5,7 +5,7 @@ use Rattle.std.proofs.lemmas.Bool.{cond_both, leb-true}
 use Rattle.std.proofs.lemmas.List.{length-append}
 use Rattle.board.specs.declared.packets.Packet.{Packet}
 use Rattle.board.specs.Bearers.{Bearer, bearer_of}
-use Rattle.board.specs.Costs.{class_costs, length_class, cost_of_length}
+use Rattle.board.specs.Costs.{class_costs, length_class, cost_of_length, highest_class_cost}
 use Rattle.capture.specs.declared.packets.Captured.{Captured}
 use Rattle.machine.specs.declared.answers.Answer.{Answer}
 use Rattle.machine.specs.declared.calls.Call.{Call}
@@ -56,7 +56,7 @@ granted_left : (g : Option Grant) (h : Grant) → g ≡ Some h → (h.left ≡ 0
 granted_left g h e n = rw e (grind arith)
 
 -- no packet is cheap
-at_least : (m n : ℕ) (ns : List ℕ) → m ≤ 1360 → AllByRecursion (λ k. m ≤ k) ns → m ≤ get_or ns n 1360
+at_least : (m n : ℕ) (ns : List ℕ) → m ≤ highest_class_cost → AllByRecursion (λ k. m ≤ k) ns → m ≤ get_or ns n highest_class_cost
 at_least m n [] l a = l
 at_least m zero (k ∷ ns) l a = a.0
 at_least m (suc n) (k ∷ ns) l a = at_least m n ns l a.1

@@ -4,7 +4,7 @@ use Rattle.board.specs.Bearers.{Bearer, after_offer}
 use Rattle.board.specs.declared.packets.Packet.{Packet}
 use Rattle.machine.specs.Standard.{ring, mailbox}
 use Rattle.policy.specs.Batches.{Batches}
-use Rattle.policy.specs.Quotas.{backlog_quota, cut_figure}
+use Rattle.policy.specs.Quotas.{backlog_batches, cut_figure, fixed_batches}
 use Rattle.setup.specs.declared.setups.BearerKind.{BearerKind}
 use Rattle.setup.specs.declared.setups.BearerKind.TheVariants.{Ring, Mailbox}
 use Rattle.setup.specs.declared.setups.BearerSetup.{BearerSetup}
@@ -30,5 +30,5 @@ is_board bearers = nat_lt 0 (length bearers) && nat_le (length bearers) 8
 
 -- what a policy means
 abbrev pub batches_of : PolicySetup → Batches
-batches_of (Fixed figure) = record { quota = λ b w. cut_figure figure; greatest = 16 }
-batches_of Backlog = record { quota = λ b w. backlog_quota w; greatest = 8 }
+batches_of (Fixed figure) = fixed_batches (cut_figure figure)
+batches_of Backlog = backlog_batches

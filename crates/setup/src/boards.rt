@@ -5,10 +5,7 @@ ghost use Rattle.setup.specs.Setups.{bearer_of, is_board};
 use crate::bearers::AnyBearer;
 use crate::nested::Before;
 use crate::setups::{BearerKind, BearerSetup};
-use board::{Board, MailboxBearer, Packet, Pair, RingBearer};
-
-/// No board shows more bearers than this.
-const MOST_BEARERS: usize = 8;
+use board::{Board, MOST_BEARERS, MailboxBearer, Packet, Pair, RingBearer};
 
 /// No ring bearer uses more slots than this.
 const MOST_SLOTS: usize = 256;
@@ -20,11 +17,7 @@ type FourSlots = (BearerSlots, BearerSlots, BearerSlots, BearerSlots);
 /// The slots of a board's ring bearers: as many for each bearer as a ring bearer can use.
 pub type Slots = (FourSlots, FourSlots);
 
-const BLANK: BearerSlots = [Packet {
-    number: 0,
-    length: 0,
-    tag: 0,
-}; MOST_SLOTS];
+const BLANK: BearerSlots = [Packet::BLANK; MOST_SLOTS];
 
 const FOUR_BLANK: FourSlots = (BLANK, BLANK, BLANK, BLANK);
 

@@ -7,4 +7,4 @@ mod settings;
 mod tests;
 
 pub use boards::{BEARERS, Slots, StandardBoard, board};
-pub use settings::{PERIOD, SETTINGS, policy};
+pub use settings::{FIGURE, PERIOD, SETTINGS, policy};

@@ -17,9 +17,12 @@ pub const SETTINGS: RawSettings = RawSettings {
     hold: 2,
 };
 
+/// The figure of its policy, which is a fixed one.
+pub const FIGURE: u32 = 4;
+
 /// The fixed policy at 4.
 pub fn policy() -> Fixed
     ensures value { ⟦<Fixed as Policy>⟧.meaning result ≡ four }
 {
-    Fixed::new(4)
+    Fixed::new(FIGURE)
 }

@@ -5,8 +5,9 @@ use Rattle.board.specs.Bearers.{Bearer}
 use Rattle.conduct.specs.Lists.{replies_to}
 use Rattle.conduct.specs.declared.replies.Reply.{Reply}
 use Rattle.conduct.specs.declared.replies.Reply.TheVariants.{Accepted, Refused, NoReceipt}
-use Rattle.machine.specs.Examples.{four, standard_board}
-use Rattle.machine.specs.State.{Batches, idle}
+use Rattle.machine.specs.Standard.{standard_board, four}
+use Rattle.machine.specs.State.{put_up}
+use Rattle.policy.specs.Batches.{Batches}
 use Rattle.machine.specs.declared.calls.Call.{Call}
 use Rattle.script.specs.Answers.{answer_text}
 use Rattle.script.specs.Refusals.{refusal_text}
@@ -31,7 +32,7 @@ lines_of replies = flat_map (λ r. line_of r ++ 10 ∷ []) replies
 
 -- the lines of the replies to calls, made on a receiver put up over a policy and bearers
 abbrev pub answers : Batches → List Bearer → List Call → List ℕ
-answers p bs calls = lines_of (replies_to p (idle bs) calls)
+answers p bs calls = lines_of (replies_to p (put_up bs) calls)
 
 -- what a text means, or why it is not read; none is above 1,048,576 bytes
 abbrev pub reading : {M : Type 0} → (List ℕ → Result M script.Unread) → List ℕ → Result M Failure

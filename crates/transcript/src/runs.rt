@@ -1,5 +1,4 @@
 ghost use Rattle.std.specs.Prelude.{◌≡◌, false, true, map, IfOk, MatchOption, string_bytes};
-ghost use Rattle.receiver.specs.Receivers.{batches};
 ghost use Rattle.setup.specs.Setups.{batches_of, bearer_of, is_board};
 ghost use Rattle.transcript.specs.Transcript.{Tells, answers, transcript_over};
 
@@ -21,7 +20,7 @@ fn told<B: Board + Drop, P: Policy + Drop>(
     policy: P,
     calls: &[Call],
 ) -> Result<String, AllocError>
-    ensures value { IfOk result (λ text. string_bytes text ≡ answers (batches (P.quotas policy) P.GREATEST) (B.bearers board) calls.now) }
+    ensures value { IfOk result (λ text. string_bytes text ≡ answers (P.meaning policy) (B.bearers board) calls.now) }
 {
     let Ok(conducted) = conduct(alloc, board, policy, calls) else {
         return Err(AllocError);
@@ -53,7 +52,7 @@ pub fn run_over<B: Board + Drop, P: Policy + Drop>(
     policy: P,
     text: &[u8],
 ) -> Result<String, Failure>
-    ensures value { Tells string_bytes (transcript_over (batches (P.quotas policy) P.GREATEST) (B.bearers board) text.now) result }
+    ensures value { Tells string_bytes (transcript_over (P.meaning policy) (B.bearers board) text.now) result }
 {
     let calls = calls_of(alloc, text)?;
     let text = told(alloc, board, policy, &calls)?;
