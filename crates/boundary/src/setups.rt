@@ -2,12 +2,10 @@
 
 ghost use Rattle.std.specs.Prelude.{◌≡◌, ◌≤◌, length, take};
 ghost use Rattle.std.specs.Option.{option_map};
+ghost use Rattle.setup.specs.declared.boards.TheConstants.{MOST_BEARERS};
 ghost use Rattle.boundary.specs.Setups.{kind_of, policy_of, setup_of, setups_of};
 
-use setup::{BearerKind, BearerSetup, PolicySetup};
-
-/// No board shows more bearers than this.
-pub(crate) const MOST_BEARERS: usize = 8;
+use setup::{BearerKind, BearerSetup, MOST_BEARERS, PolicySetup};
 
 /// What stands where no bearer was put yet.
 const BLANK: BearerSetup = BearerSetup {

@@ -7,6 +7,6 @@ mod nested;
 mod setups;
 
 pub use bearers::AnyBearer;
-pub use boards::{AnyBoard, NO_PACKETS, Slots, put_up};
+pub use boards::{AnyBoard, MOST_BEARERS, NO_PACKETS, Slots, put_up};
 pub use nested::Before;
 pub use setups::{BearerKind, BearerSetup, PolicySetup, fixed};
