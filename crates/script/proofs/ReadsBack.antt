@@ -1,10 +1,9 @@
 -- Calls that were written are read back.
-use Rattle.std.proofs.Common.{◌≡◌, ℕ, ◌+◌, ◌<◌, ◌^◌, true, false, ◌&&◌, ltb, List, [], ◌∷◌, get_or, map, All, Some, Ok, Result, Vec, vec_items, decimal, eqb, refl, ap, ◌∙◌, subst, append_assoc, arith}
+use Rattle.std.proofs.Common.{◌≡◌, ℕ, ◌+◌, ◌<◌, ◌^◌, true, ◌&&◌, ltb, List, [], ◌∷◌, get_or, map, All, Some, Ok, Result, Vec, vec_items, decimal, refl, ap, ◌∙◌, subst, arith}
 use Rattle.std.specs.declared.alloc.Global.{Global}
 use Rattle.std.specs.List.{list_all}
 use Rattle.std.proofs.lemmas.Fmt.{decimal_nonempty, digits_decimal, digits_value-decimal}
 use Rattle.std.proofs.lemmas.List.Elements.{All-nil, All-cons, All-head, All-tail, All-from_get_or, All-weaker, All-map}
-use Rattle.std.proofs.lemmas.List.Splits.{slice_split_at}
 use Rattle.std.proofs.lemmas.Str.Parse.{digit_at}
 use Rattle.machine.specs.declared.calls.Call.{Call}
 use Rattle.machine.specs.declared.calls.Call.TheVariants.{Configure, Arrive, Step, Work, Fetch, Finish, Discard, Tell}
@@ -13,7 +12,7 @@ use Rattle.script.specs.declared.calls.Name.TheVariants as name
 use Rattle.script.specs.declared.faults.ReadError.{ReadError}
 use Rattle.script.specs.declared.keywords.Keyword.TheVariants as keyword
 use Rattle.script.specs.declared.scripts.Statement.TheVariants as statement
-use Rattle.script.specs.Words.{is_some_text, lines, words}
+use Rattle.script.specs.Words.{is_some_text, lines}
 use Rattle.script.specs.Numbers.{is_number, number, numbers}
 use Rattle.script.specs.Calls.{call, configure, arrive, receipt}
 use Rattle.script.specs.Keywords.{call_by, call_of, keyword_of}
@@ -21,7 +20,7 @@ use Rattle.script.specs.Results.{result_map, result_and_then}
 use Rattle.script.specs.Texts.{Meaning, ahead, and_then, from_line, meaning}
 use Rattle.script.specs.Readings.{Reads}
 use Rattle.script.specs.Script.{Contents, statement_by}
-use Rattle.script.specs.Writing.{first_word, numbers_of, call_line, calls_text, FitsTypes}
+use Rattle.script.specs.Writing.{first_word, numbers_of, calls_text, FitsTypes}
 use Rattle.script.proofs.Numerals.{digits, some_digits, less}
 use Rattle.script.proofs.Cut.{Plain, Word, line_first, word_by_test, words_of}
 

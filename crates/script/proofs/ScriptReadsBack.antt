@@ -20,7 +20,7 @@ use Rattle.script.specs.Readings.{Reads}
 use Rattle.script.specs.Results.{result_map, result_and_then}
 use Rattle.script.specs.Script.{Contents, ScriptMeaning, and_further, contents_of, contents_with, first_policy, next_bearer, script_from, script_meaning, statement_by, statement_of}
 use Rattle.script.specs.Setups.{bearer_of, bearer_with, policy_of}
-use Rattle.script.specs.Words.{lines, words}
+use Rattle.script.specs.Words.{lines}
 use Rattle.script.specs.Writing.{FitsFigure, FitsTypes, IsSayable, IsWritable, bearer_line, bearers_text, calls_text, first_word, kind_word, line, numbers_of, policy_text, policy_words, script_text}
 use Rattle.script.proofs.Cut.{Word, line_first, word_by_test, words_of}
 use Rattle.script.proofs.ReadsBack.{decimal_word, first_is_word, number_words, numbers_decimal, says}

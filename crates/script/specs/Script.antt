@@ -29,10 +29,6 @@ contents_of s = record { bearers = vec_items s.bearers; policy = s.policy; calls
 abbrev pub no_contents : Contents
 no_contents = record { bearers = []; policy = None; calls = [] }
 
--- the board and the policy are said before the first call
-abbrev pub before_calls : Contents → Result Statement Fault → Result Statement Fault
-before_calls s r = if length s.calls == 0 then r else Err OutOfPlace
-
 -- a bearer that is not the ninth
 abbrev pub next_bearer : Contents → BearerSetup → Result Statement Fault
 next_bearer s b = if nat_lt (length s.bearers) 8 then Ok (statement.Bearer b) else Err NinthBearer
@@ -42,16 +38,20 @@ abbrev pub first_policy : Contents → PolicySetup → Result Statement Fault
 first_policy s p = if is_some s.policy then Err SecondPolicy else Ok (statement.Policy p)
 
 abbrev pub bearer_statement : Contents → List (List ℕ) → Result Statement Fault
-bearer_statement s words = before_calls s (result_and_then (next_bearer s) (bearer_of words))
+bearer_statement s words = result_and_then (next_bearer s) (bearer_of words)
 
 abbrev pub policy_statement : Contents → List (List ℕ) → Result Statement Fault
-policy_statement s words = before_calls s (result_and_then (first_policy s) (policy_of words))
+policy_statement s words = result_and_then (first_policy s) (policy_of words)
+
+-- the board and the policy are said before the first call
+abbrev pub before_calls : Contents → Result Statement Fault → Result Statement Fault
+before_calls s r = if length s.calls == 0 then r else Err OutOfPlace
 
 -- what a line says by its first word and the words behind it, where so much is said before
 abbrev pub statement_by : Contents → Option Keyword → List (List ℕ) → Result Statement Fault
 statement_by s None words = Err UnknownCall
-statement_by s (Some keyword.Bearer) words = bearer_statement s words
-statement_by s (Some keyword.Policy) words = policy_statement s words
+statement_by s (Some keyword.Bearer) words = before_calls s (bearer_statement s words)
+statement_by s (Some keyword.Policy) words = before_calls s (policy_statement s words)
 statement_by s (Some (keyword.Call name)) words = result_map statement.Call (call name words)
 
 -- a line without words says nothing

@@ -1,5 +1,5 @@
 -- What a line says of the board or the policy, behind its first word.
-use Rattle.std.specs.Prelude.{ℕ, false, List, [], ◌∷◌, Some, None, Ok, Err, Option, Result, bytes_eq, codes, if◌then◌else◌, ok_or, slice_index}
+use Rattle.std.specs.Prelude.{ℕ, false, List, [], ◌∷◌, Ok, Err, Result, bytes_eq, codes, if◌then◌else◌, slice_index}
 use Rattle.setup.specs.declared.setups.BearerKind.{BearerKind}
 use Rattle.setup.specs.declared.setups.BearerKind.TheVariants.{Ring, Mailbox}
 use Rattle.setup.specs.declared.setups.BearerSetup.{BearerSetup}

@@ -45,9 +45,6 @@ impl Script {
     fn bearer_statement(&self, words: &[&[u8]]) -> Result<Statement, Fault>
         ensures value { result ≡ bearer_statement (contents_of self.now) (map (λ w. w.now) words.now) }
     {
-        if !self.calls.is_empty() {
-            return Err(Fault::OutOfPlace);
-        }
         let bearer = bearer(words)?;
         if self.bearers.len() >= MOST_BEARERS {
             return Err(Fault::NinthBearer);
@@ -59,9 +56,6 @@ impl Script {
     fn policy_statement(&self, words: &[&[u8]]) -> Result<Statement, Fault>
         ensures value { result ≡ policy_statement (contents_of self.now) (map (λ w. w.now) words.now) }
     {
-        if !self.calls.is_empty() {
-            return Err(Fault::OutOfPlace);
-        }
         let policy = policy(words)?;
         if self.policy.is_some() {
             return Err(Fault::SecondPolicy);
@@ -77,9 +71,10 @@ impl Script {
             return Ok(None);
         };
         let statement = match Keyword::of(word).ok_or(Fault::UnknownCall)? {
+            Keyword::Call(name) => Statement::Call(name.call(further)?),
+            _ if !self.calls.is_empty() => return Err(Fault::OutOfPlace),
             Keyword::Bearer => self.bearer_statement(further)?,
             Keyword::Policy => self.policy_statement(further)?,
-            Keyword::Call(name) => Statement::Call(name.call(further)?),
         };
         Ok(Some(statement))
     }
