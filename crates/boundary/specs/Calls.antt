@@ -19,10 +19,10 @@ abbrev pub end : ℕ → ℕ → CallsEnd
 end status figure = record { status = status; figure = figure }
 
 -- how the calls of a text without answers end
-abbrev pub unanswered : Failure → CallsEnd
-unanswered (Unread u) = end UNREAD u.line
-unanswered TooLong = end TOO_LONG 0
-unanswered NoMemory = end NO_MEMORY 0
+abbrev pub failure_end : Failure → CallsEnd
+failure_end (Unread u) = end UNREAD u.line
+failure_end TooLong = end TOO_LONG 0
+failure_end NoMemory = end NO_MEMORY 0
 
 -- whether the numbers of all kinds are those of kinds
 abbrev pub is_known : List RawBearer → RawPolicy → Bool
@@ -30,7 +30,7 @@ is_known bs p = is_some (setups_of bs) && is_some (policy_of p)
 
 -- what is to be answered on a board and by a policy whose kinds are known: a line for each call, or how the calls end without
 abbrev pub answer_by : Option (List BearerSetup) → Option PolicySetup → List ℕ → Result (List ℕ) CallsEnd
-answer_by (Some bs) (Some p) text = result_map_both (λ lines. lines) unanswered (transcript_over (batches_of p) (map bearer_of bs) text)
+answer_by (Some bs) (Some p) text = result_map_both (λ lines. lines) failure_end (transcript_over (batches_of p) (map bearer_of bs) text)
 answer_by _ _ text = Err (end UNKNOWN_KIND 0)
 
 -- and by their numbers
@@ -38,11 +38,11 @@ abbrev pub answer_to : List RawBearer → RawPolicy → List ℕ → Result (Lis
 answer_to bs p text = cond (is_board bs) (answer_by (setups_of bs) (policy_of p) text) (Err (end NO_BOARD 0))
 
 -- how the calls end then, with so much memory
-abbrev pub ended : Result (List ℕ) CallsEnd → List ℕ → CallsEnd
-ended (Ok lines) memory = end (cond (fits memory 0 lines) WRITTEN TOO_SMALL) (length lines)
-ended (Err e) memory = e
+abbrev pub calls_end : Result (List ℕ) CallsEnd → List ℕ → CallsEnd
+calls_end (Ok lines) memory = end (cond (fits memory 0 lines) WRITTEN TOO_SMALL) (length lines)
+calls_end (Err e) memory = e
 
 -- and what is left in the memory
-abbrev pub left_by : Result (List ℕ) CallsEnd → List ℕ → List ℕ
-left_by (Ok lines) memory = left memory 0 lines
-left_by (Err e) memory = memory
+abbrev pub memory_left : Result (List ℕ) CallsEnd → List ℕ → List ℕ
+memory_left (Ok lines) memory = left memory 0 lines
+memory_left (Err e) memory = memory

@@ -26,10 +26,10 @@ figures_of d =
       periods_len = d.periods_len;
     }
 
-abbrev pub told : Result Replayed ReplayError → ReplayEnd
-told (Ok d) = record { status = WRITTEN; number = 0; place = 0; figures = figures_of d }
-told (Err (Refused r)) = record { status = REFUSED; number = number_of r; place = place_of r; figures = NO_FIGURES }
-told (Err Memory) = record { status = NO_MEMORY; number = 0; place = 0; figures = NO_FIGURES }
+abbrev pub replay_end : Result Replayed ReplayError → ReplayEnd
+replay_end (Ok d) = record { status = WRITTEN; number = 0; place = 0; figures = figures_of d }
+replay_end (Err (Refused r)) = record { status = REFUSED; number = number_of r; place = place_of r; figures = NO_FIGURES }
+replay_end (Err Memory) = record { status = NO_MEMORY; number = 0; place = 0; figures = NO_FIGURES }
 
 -- when an answer, and what is left in the memories, are a capture's replay; without an answer both are as they were
 abbrev pub Ends : Meaning → List ℕ → List ℕ → Result Replayed ReplayError → List ℕ → List ℕ → Type 0

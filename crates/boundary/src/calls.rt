@@ -1,9 +1,10 @@
 ghost use Rattle.std.specs.Prelude.{◌≡◌, ◌≢◌, Ok, Err, IfErr, IfOk, false, true, string_bytes};
 ghost use Rattle.setup.specs.Setups.{is_board};
-ghost use Rattle.boundary.specs.Calls.{answer_to, end, ended, is_known, left_by, unanswered};
+ghost use Rattle.boundary.specs.Calls.{answer_to, calls_end, end, failure_end, is_known, memory_left};
 
-use crate::setups::{MOST_BEARERS, RawBearer, RawPolicy, policy, setups};
+use crate::setups::{RawBearer, RawPolicy, policy, setups};
 use crate::statuses::{NO_BOARD, NO_MEMORY, TOO_LONG, TOO_SMALL, UNKNOWN_KIND, UNREAD, WRITTEN};
+use setup::MOST_BEARERS;
 use std::alloc::Global;
 use table::put;
 use transcript::{Failure, run_on};
@@ -26,7 +27,7 @@ impl CallsEnd {
 }
 
 impl From<Failure> for CallsEnd {
-    ghost from_gives = { λ failure r. r ≡ unanswered failure };
+    ghost from_gives = { λ failure r. r ≡ failure_end failure };
 
     fn from(failure: Failure) -> CallsEnd {
         match failure {
@@ -69,11 +70,11 @@ pub extern "C" fn zuphlos_calls(
     text: &[u8],
     answers: &mut [u8],
 ) -> CallsEnd
-    ensures value { result.status ≢ NO_MEMORY → result ≡ ended (answer_to bearers.now policy text.now) answers.old }
+    ensures value { result.status ≢ NO_MEMORY → result ≡ calls_end (answer_to bearers.now policy text.now) answers.old }
     ensures no_board { is_board bearers.now ≡ false → result ≡ end NO_BOARD 0 }
     ensures unknown_kind { is_board bearers.now ≡ true → is_known bearers.now policy ≡ false → result ≡ end UNKNOWN_KIND 0 }
     ensures no_memory { result.status ≡ NO_MEMORY → result.figure ≡ 0 }
-    ensures written { result.status ≡ WRITTEN → answers.new ≡ left_by (answer_to bearers.now policy text.now) answers.old }
+    ensures written { result.status ≡ WRITTEN → answers.new ≡ memory_left (answer_to bearers.now policy text.now) answers.old }
     ensures same { result.status ≢ WRITTEN → answers.new ≡ answers.old }
 {
     match lines(alloc, bearers, policy, text) {

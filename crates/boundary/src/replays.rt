@@ -5,7 +5,7 @@ ghost use Rattle.replay.specs.Answers.{EveryRun};
 ghost use Rattle.replay.specs.ByLedger.{RowsByLedger};
 ghost use Rattle.machine.specs.Laws.{Lawful};
 ghost use Rattle.replay.specs.Runs.{AllAccepted, OneRun, entries};
-ghost use Rattle.boundary.specs.Replays.{Ends, figures_of, told};
+ghost use Rattle.boundary.specs.Replays.{Ends, figures_of, replay_end};
 
 use crate::statuses::{NO_MEMORY, REFUSED, WRITTEN};
 use replay::{ReplayError, Replayed, replay};
@@ -74,7 +74,7 @@ impl From<Replayed> for Figures {
 }
 
 impl From<Result<Replayed, ReplayError>> for ReplayEnd {
-    ghost from_gives = { λ answer r. r ≡ told answer };
+    ghost from_gives = { λ answer r. r ≡ replay_end answer };
 
     fn from(answer: Result<Replayed, ReplayError>) -> ReplayEnd {
         let (status, number, place, figures) = match answer {
@@ -104,7 +104,7 @@ pub extern "C" fn zuphlos_replay(
     packets: &mut [u8],
     periods: &mut [u8],
 ) -> ReplayEnd
-    ensures value { (answer : Result Replayed ReplayError) × (result ≡ told answer) × Ends (meaning 3 capture.now) packets.old periods.old answer packets.new periods.new }
+    ensures value { (answer : Result Replayed ReplayError) × (result ≡ replay_end answer) × Ends (meaning 3 capture.now) packets.old periods.old answer packets.new periods.new }
     ensures one_run { result.status ≡ WRITTEN → EveryRun (meaning 3 capture.now) (OneRun four standard_board) }
     ensures accepted { result.status ≡ WRITTEN → EveryRun (meaning 3 capture.now) (AllAccepted four standard_board) }
     ensures by_ledger { result.status ≡ WRITTEN → EveryRun (meaning 3 capture.now) (RowsByLedger four standard_board) }

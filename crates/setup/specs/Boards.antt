@@ -9,16 +9,16 @@ use Rattle.setup.specs.declared.nested.Before.{Before}
 use Rattle.setup.specs.declared.nested.Before.TheVariants.{Alone, Others}
 
 -- of one bearer, of any kind
-abbrev pub of_any_kind : AnyBearer → List Bearer
-of_any_kind (Ring x) = ring_bearer x ∷ []
-of_any_kind (Mailbox x) = mailbox_bearer x ∷ []
+abbrev pub any_bearer : AnyBearer → List Bearer
+any_bearer (Ring x) = ring_bearer x ∷ []
+any_bearer (Mailbox x) = mailbox_bearer x ∷ []
 
 -- of a bearer alone, or before others
-abbrev pub before : {B : Type 0} → (B → List Bearer) → Before B → List Bearer
-before bearers (Alone x) = of_any_kind x
-before bearers (Others p) = both (of_any_kind p.0) (bearers p.1)
+abbrev pub nested_bearers : {B : Type 0} → (B → List Bearer) → Before B → List Bearer
+nested_bearers bearers (Alone x) = any_bearer x
+nested_bearers bearers (Others p) = both (any_bearer p.0) (bearers p.1)
 
 -- of a board, if there is one
-abbrev pub shown : {B : Type 0} → (B → List Bearer) → Option B → List Bearer
-shown bearers None = []
-shown bearers (Some b) = bearers b
+abbrev pub optional_bearers : {B : Type 0} → (B → List Bearer) → Option B → List Bearer
+optional_bearers bearers None = []
+optional_bearers bearers (Some b) = bearers b

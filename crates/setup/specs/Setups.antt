@@ -12,17 +12,17 @@ use Rattle.setup.specs.declared.setups.PolicySetup.{PolicySetup}
 use Rattle.setup.specs.declared.setups.PolicySetup.TheVariants.{Fixed, Backlog}
 
 -- the packet that waits in an occupied bearer
-abbrev pub waiting : Packet
-waiting = record { number = 0; length = 1; tag = 0 }
+abbrev pub waiting_packet : Packet
+waiting_packet = record { number = 0; length = 1; tag = 0 }
 
 -- a bearer just put up, of a kind and with a depth asked for
-abbrev pub empty : BearerKind → ℕ → Bearer
-empty Ring depth = ring (min 256 depth)
-empty Mailbox depth = mailbox (min 16 depth)
+abbrev pub new_bearer : BearerKind → ℕ → Bearer
+new_bearer Ring depth = ring (min 256 depth)
+new_bearer Mailbox depth = mailbox (min 16 depth)
 
 -- and then with the packet that waits in it, if there is room
 abbrev pub bearer_of : BearerSetup → Bearer
-bearer_of s = cond s.is_occupied (after_offer waiting (empty s.kind s.depth)) (empty s.kind s.depth)
+bearer_of s = cond s.is_occupied (after_offer waiting_packet (new_bearer s.kind s.depth)) (new_bearer s.kind s.depth)
 
 -- a board shows one to eight bearers
 abbrev pub is_board : {S : Type 0} → List S → Bool

@@ -8,9 +8,9 @@ pub enum AnyBearer<'a> {
 }
 
 impl<'a> Board for AnyBearer<'a> {
-    ghost use Rattle.setup.specs.Boards.{of_any_kind};
+    ghost use Rattle.setup.specs.Boards.{any_bearer};
 
-    ghost bearers = { of_any_kind };
+    ghost bearers = { any_bearer };
 
     fn size(&self) -> usize {
         match self {

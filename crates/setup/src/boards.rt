@@ -1,5 +1,5 @@
 ghost use Rattle.std.specs.Prelude.{◌≡◌, ◌≤◌, false, true, [], ◌∷◌, drop, length, map, MatchOption};
-ghost use Rattle.setup.specs.Boards.{shown};
+ghost use Rattle.setup.specs.Boards.{optional_bearers};
 ghost use Rattle.setup.specs.Setups.{bearer_of, is_board};
 
 use crate::bearers::AnyBearer;
@@ -61,8 +61,8 @@ fn put_before<'a, B: Board + Drop>(
     others: Option<B>,
 ) -> Option<Before<'a, B>>
     requires few { length bearers.now ≤ MOST_BEARERS }
-    requires others { shown B.bearers others ≡ map bearer_of (drop 1 bearers.now) }
-    ensures value { shown ⟦<Before<'a, B> as Board>⟧.bearers result ≡ map bearer_of bearers.now }
+    requires others { optional_bearers B.bearers others ≡ map bearer_of (drop 1 bearers.now) }
+    ensures value { optional_bearers ⟦<Before<'a, B> as Board>⟧.bearers result ≡ map bearer_of bearers.now }
 {
     let first = put_up_one(*bearers.first()?, slots);
     Some(match others {
@@ -78,8 +78,8 @@ fn put_four_before<'a, B: Board + Drop>(
     others: Option<B>,
 ) -> Option<FourBefore<'a, B>>
     requires few { length bearers.now ≤ MOST_BEARERS }
-    requires others { shown B.bearers others ≡ map bearer_of (drop 4 bearers.now) }
-    ensures value { shown ⟦<FourBefore<'a, B> as Board>⟧.bearers result ≡ map bearer_of bearers.now }
+    requires others { optional_bearers B.bearers others ≡ map bearer_of (drop 4 bearers.now) }
+    ensures value { optional_bearers ⟦<FourBefore<'a, B> as Board>⟧.bearers result ≡ map bearer_of bearers.now }
 {
     let others = put_before(from(bearers, 3), &mut slots.3, others);
     let others = put_before(from(bearers, 2), &mut slots.2, others);

@@ -9,9 +9,9 @@ pub enum Before<'a, B> {
 }
 
 impl<'a, B: Board> Board for Before<'a, B> {
-    ghost use Rattle.setup.specs.Boards.{before};
+    ghost use Rattle.setup.specs.Boards.{nested_bearers};
 
-    ghost bearers = { λ x. before B.bearers x };
+    ghost bearers = { λ x. nested_bearers B.bearers x };
 
     fn size(&self) -> usize {
         match self {

@@ -7,12 +7,12 @@ use Rattle.transcript.specs.declared.failures.Failure.{Failure}
 use Rattle.transcript.specs.declared.failures.Failure.TheVariants.{TooLong, Unread, NoMemory}
 
 -- why it could not be read
-abbrev pub failed : ReadError → Failure
-failed (error.Unread u) = Unread u
-failed error.NoMemory = NoMemory
+abbrev pub failure_of : ReadError → Failure
+failure_of (error.Unread u) = Unread u
+failure_of error.NoMemory = NoMemory
 
 -- what is said of that
-abbrev pub because : Failure → List ℕ
-because TooLong = codes "the text is above 1048576 bytes"
-because (Unread u) = unread_text u
-because NoMemory = codes "out of memory"
+abbrev pub failure_text : Failure → List ℕ
+failure_text TooLong = codes "the text is above 1048576 bytes"
+failure_text (Unread u) = unread_text u
+failure_text NoMemory = codes "out of memory"

@@ -1,5 +1,5 @@
 ghost use Rattle.std.specs.Prelude.{◌≡◌, IfOk, string_bytes};
-ghost use Rattle.transcript.specs.Failures.{failed, because};
+ghost use Rattle.transcript.specs.Failures.{failure_of, failure_text};
 ghost use Rattle.transcript.specs.declared.failures.Failure.TheVariants as failure;
 
 use script::{ReadError, Unread, unread};
@@ -17,7 +17,7 @@ pub enum Failure {
 }
 
 impl From<ReadError> for Failure {
-    ghost from_gives = { λ error failure. failure ≡ failed error };
+    ghost from_gives = { λ error failure. failure ≡ failure_of error };
 
     fn from(error: ReadError) -> Failure {
         match error {
@@ -37,7 +37,7 @@ impl From<AllocError> for Failure {
 
 /// Why there are no answers, as one line without its end.
 pub fn reason(alloc: Global, failure: Failure) -> Result<String, AllocError>
-    ensures value { IfOk result (λ text. string_bytes text ≡ because failure) }
+    ensures value { IfOk result (λ text. string_bytes text ≡ failure_text failure) }
 {
     match failure {
         Failure::TooLong => String::from_str(alloc, "the text is above 1048576 bytes"),
