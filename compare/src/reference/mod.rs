@@ -11,6 +11,7 @@ mod receiver;
 mod refusals;
 mod replay;
 mod settings;
+mod standard;
 mod tables;
 
 #[cfg(test)]
