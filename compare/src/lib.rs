@@ -10,4 +10,5 @@ pub mod reference;
 pub mod replays;
 pub mod samples;
 pub mod terms;
+pub mod texts;
 pub mod transcripts;
