@@ -5,6 +5,7 @@ pub mod captures;
 pub mod hosts;
 pub mod lent;
 pub mod lists;
+pub mod programs;
 pub mod proved;
 pub mod random;
 pub mod reference;
