@@ -9,7 +9,7 @@ use crate::lent::Lent;
 use crate::random::Random;
 use crate::terms::{Ended, PassedBearer, PassedPolicy};
 use crate::texts::{self, LONGEST};
-use crate::{lists, proved, reference};
+use crate::{differences, lists, proved, reference};
 
 /// What a host passes, but for the memory that it lends.
 pub struct Passed {
@@ -31,12 +31,12 @@ pub fn passed(seed: u64) -> Passed {
         policy: proved::passed_policy(policy),
         text: texts::of_calls(&calls, &mut random),
     };
-    if random.chance(1, 5) {
+    if random.chance(1, 4) {
         let count = random.pick(&[0, 0, 9, 9, 10, 300]);
         let first = passed.bearers[0];
         passed.bearers.resize(count, first);
     }
-    if random.chance(1, 5) {
+    if random.chance(1, 4) {
         strange_kinds(&mut passed, &mut random);
     }
     passed
@@ -81,7 +81,7 @@ pub fn ended(passed: &Passed) -> Ended {
     reference::make_calls(&passed.bearers, passed.policy, &passed.text, &mut memory)
 }
 
-/// Room for all answers: the longest is a telling of less than 200 bytes, to a line of five.
+/// Room for all answers: none has 200 bytes.
 fn ample(passed: &Passed) -> usize {
     if passed.text.len() > LONGEST {
         return 100;
@@ -133,8 +133,8 @@ fn both(passed: &Passed, len: usize, seed: u64) -> Result<Ended, String> {
     if proved != reference {
         return Err(format!("proved {proved:?}, reference {reference:?}"));
     }
-    if memory.held() != other.held() {
-        return Err("the answers differ".into());
+    match differences::line("answers", "proved", memory.held(), other.held()) {
+        Some(differs) => Err(differs),
+        None => Ok(proved),
     }
-    Ok(proved)
 }

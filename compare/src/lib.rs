@@ -2,6 +2,7 @@
 //! so that the two can be compared call by call and byte by byte.
 
 pub mod captures;
+mod differences;
 pub mod hosts;
 pub mod lent;
 pub mod lists;

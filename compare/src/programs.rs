@@ -4,8 +4,8 @@ mod met;
 
 pub use met::Met;
 
-use crate::reference;
 use crate::texts::Text;
+use crate::{differences, reference};
 use std::io::{self, ErrorKind, Write};
 use std::path::{Path, PathBuf};
 use std::process::{Command, Stdio};
@@ -76,29 +76,15 @@ fn run(text: &[u8]) -> io::Result<Ran> {
 
 /// The first thing that differs from this status and what else is printed.
 fn differs(ran: &Ran, status: i32, output: &str, error: &str) -> Option<String> {
-    line("output", &ran.output, output.as_bytes())
-        .or_else(|| line("error", &ran.error, error.as_bytes()))
+    let line = |stream, printed: &[u8], expected: &str| {
+        differences::line(stream, "program", printed, expected.as_bytes())
+    };
+    line("standard output", &ran.output, output)
+        .or_else(|| line("standard error", &ran.error, error))
         .or_else(|| match ran.status {
             Some(other) if other == status => None,
             other => Some(format!("status {other:?} instead of {status}")),
         })
-}
-
-/// The first line that differs on one of the standard streams.
-fn line(stream: &str, printed: &[u8], expected: &[u8]) -> Option<String> {
-    if printed == expected {
-        return None;
-    }
-    let mut lines = printed.split_inclusive(|&byte| byte == b'\n');
-    let mut others = expected.split_inclusive(|&byte| byte == b'\n');
-    let mut pairs = std::iter::from_fn(|| Some((lines.next(), others.next())));
-    let (place, pair) = (1..)
-        .zip(&mut pairs)
-        .find(|(_, (one, other))| one != other)?;
-    let [one, other] = [pair.0, pair.1].map(|line| line.map(String::from_utf8_lossy));
-    Some(format!(
-        "line {place} on standard {stream}: program {one:?}, reference {other:?}"
-    ))
 }
 
 #[cfg(test)]
@@ -107,24 +93,21 @@ mod tests {
 
     #[test]
     fn each_difference_is_told() {
-        let check = |status, output: &str, error: &str| {
+        for (status, output, error, told) in [
+            (Some(0), "empty\n", "", ""),
+            (Some(0), "", "", "standard output, line 1"),
+            (Some(0), "empty\n", "done\n", "standard error, line 1"),
+            (Some(1), "empty\n", "", "status Some(1)"),
+            (None, "empty\n", "", "status None"),
+        ] {
             let ran = Ran {
                 status,
                 output: output.into(),
                 error: error.into(),
             };
-            differs(&ran, 0, "configured\nempty\n", "").unwrap_or_default()
-        };
-        assert_eq!(check(Some(0), "configured\nempty\n", ""), "");
-        for output in ["configured\n", "configured\nempty", "configured\nfull\n"] {
-            assert!(check(Some(0), output, "").starts_with("line 2 on standard output: "));
-        }
-        let more = check(Some(0), "configured\nempty\n\n", "");
-        assert!(more.starts_with("line 3 on standard output: "));
-        let said = check(Some(0), "configured\nempty\n", "done\n");
-        assert!(said.starts_with("line 1 on standard error: "));
-        for status in [Some(1), None] {
-            assert!(check(status, "configured\nempty\n", "").starts_with("status "));
+            let differs = differs(&ran, 0, "empty\n", "");
+            assert_eq!(differs.is_none(), told.is_empty());
+            assert!(differs.unwrap_or_default().starts_with(told));
         }
     }
 }

@@ -28,14 +28,14 @@ pub struct Said {
     pub calls: Vec<Call>,
 }
 
-/// The text of a seed. Half of the texts are damaged, and a few are about as long as they may be.
+/// The text of a seed. Three of five texts are damaged, and a few are about as long as they may be.
 pub fn text(seed: u64) -> Text {
     let mut random = Random::new(seed);
     let (bearers, policy) = heads::head(&mut random);
     let mut lines = heads::lines(&bearers, policy);
     let calls = calls_on(&bearers, policy, &mut random);
     lines.extend(calls.iter().map(words));
-    let is_damaged = random.chance(1, 2);
+    let is_damaged = random.chance(3, 5);
     if is_damaged {
         damage::damage(&mut lines, &mut random);
     }
@@ -77,11 +77,11 @@ fn words(call: &Call) -> Line {
     words.split(' ').map(|word| word.into()).collect()
 }
 
-/// The lines as bytes. One text of 24 is made as long as it may be, or longer.
+/// The lines as bytes. One text of 20 is made as long as it may be, or longer.
 fn written(lines: &[Line], random: &mut Random) -> Vec<u8> {
     let mut bytes = dress::dressed(lines, random);
-    if random.chance(1, 24) {
-        let more = random.pick(&[0, 0, 1, 1, 2, 500_000]);
+    if random.chance(1, 20) {
+        let more = random.pick(&[0, 0, 0, 1, 1, 500_000]);
         stretch(&mut bytes, LONGEST + more, random);
     }
     bytes
@@ -130,7 +130,7 @@ mod tests {
                 }
             }
         }
-        assert!(answered > 100 && long > 0);
+        assert!(answered > 50 && long > 0);
     }
 
     #[test]

@@ -7,7 +7,8 @@ use crate::terms::{Bearer, Call, Kind, Policy};
 const LIMIT: u64 = 100_000;
 
 /// Settings that leave no share and the least that do tell the grant bound; floods, how much each
-/// bearer holds; steps, the quotas; and refused work, what all that was charged.
+/// bearer holds; steps, the quotas; and refused work, what all that was charged. Of packets that are
+/// fetched, most have the first numbers, and so most of these receipts are held.
 pub fn probe(bearers: &[Bearer], policy: Policy, random: &mut Random) -> Vec<Call> {
     let least = LIMIT + grant_bound(bearers, policy);
     let mut calls = vec![configure(least - 1), configure(least)];
@@ -15,10 +16,11 @@ pub fn probe(bearers: &[Bearer], policy: Policy, random: &mut Random) -> Vec<Cal
     for place in (first..bearers.len()).chain(0..first) {
         flood(place, bearers[place], random, &mut calls);
     }
-    for _ in 0..random.among(1, 6) {
+    for number in 0..random.among(1, 6) as u32 {
         let steps = random.among(1, 40) as usize;
         calls.extend(vec![Call::Step; steps]);
-        calls.extend([Call::Work(least), Call::Fetch]);
+        let spend = random.pick(&[Call::Finish, Call::Discard]);
+        calls.extend([Call::Work(least), Call::Fetch, spend(number)]);
     }
     calls.push(Call::Tell);
     calls

@@ -4,12 +4,13 @@
 use super::{heads, Line, Word};
 use crate::random::Random;
 
-/// By how many numbers they take.
-const CALLS: [&[&[u8]]; 4] = [
-    &[b"step", b"fetch", b"tell"],
-    &[b"work", b"finish", b"discard"],
-    &[b"arrive"],
-    &[b"configure"],
+/// Lines of calls, those together that take the same numbers.
+const CALLS: [&[&str]; 5] = [
+    &["step", "fetch", "tell"],
+    &["work 500"],
+    &["finish 3", "discard 3"],
+    &["arrive 0 20 7"],
+    &["configure 64000 32000 32 24 8 2"],
 ];
 
 /// First words that name no call, nor begin a line of a board or a policy.
@@ -87,19 +88,40 @@ pub fn damage(lines: &mut Vec<Line>, random: &mut Random) {
     }
 }
 
-/// Any line: one of a bearer as often as one of a policy or of a call, and of calls those that take
-/// few numbers as often as those that take many.
-fn any(lines: &[Line], random: &mut Random) -> usize {
-    let calls: &[&[u8]] = random.pick(&CALLS);
-    let call = random.pick(calls);
-    let name = random.pick(&[b"bearer", b"policy", call]);
-    let named = (0..lines.len()).filter(|&at| begins(&lines[at], name));
+/// Any line, half the time one of a call; a new one if there is none.
+fn any(lines: &mut Vec<Line>, random: &mut Random) -> usize {
+    let line = match random.below(4) {
+        0 => bearer_line(random),
+        1 => policy_line(random),
+        _ => call_line(random),
+    };
+    let named = (0..lines.len()).filter(|&at| begins(&lines[at], &line[0]));
     let named: Vec<usize> = named.collect();
-    if named.is_empty() {
-        random.below(lines.len() as u64) as usize
-    } else {
-        random.pick(&named)
+    if !named.is_empty() {
+        return random.pick(&named);
     }
+    let head = head_len(lines) as u64;
+    let at = if is_head(&line) {
+        random.among(0, head)
+    } else {
+        random.among(head, lines.len() as u64)
+    };
+    lines.insert(at as usize, line);
+    at as usize
+}
+
+fn bearer_line(random: &mut Random) -> Line {
+    heads::bearer_line(&heads::bearer(random))
+}
+
+fn policy_line(random: &mut Random) -> Line {
+    heads::policy_line(heads::policy(random))
+}
+
+fn call_line(random: &mut Random) -> Line {
+    let calls = random.pick(&CALLS);
+    let words = random.pick(calls).split(' ');
+    words.map(|word| word.into()).collect()
 }
 
 fn begins(line: &Line, name: &[u8]) -> bool {
@@ -112,18 +134,15 @@ fn is_head(line: &Line) -> bool {
 
 /// Damages this line or puts in another, and answers which.
 fn strike(lines: &mut Vec<Line>, at: usize, random: &mut Random) -> usize {
-    match random.below(20) {
+    match random.below(24) {
         0 => misname(&mut lines[at], random),
         1 | 2 => return behind_a_call(lines, random),
         3 | 4 => return misname_kind(lines, at, random),
         5..=9 => miscount(&mut lines[at], random),
-        10..=12 => spoil_number(&mut lines[at], random.pick(&NO_NUMBERS), random),
-        13..=15 => {
-            let large = random.pick(&LARGE);
-            spoil_number(&mut lines[at], large.as_bytes(), random);
-        }
-        16 | 17 => return ninth_bearer(lines, random),
-        18 => return second_policy(lines, random),
+        10..=17 => spoil_numbers(&mut lines[at], random),
+        18 | 19 => return ninth_bearer(lines, random),
+        20 | 21 => return second_policy(lines, random),
+        22 => put_return(&mut lines[at], random),
         _ => flip(&mut lines[at], random),
     }
     at
@@ -140,9 +159,9 @@ fn misname(line: &mut Line, random: &mut Random) {
 /// A line of a board or a policy, with no fault of its own.
 fn head_line(random: &mut Random) -> Line {
     if random.chance(1, 2) {
-        heads::bearer_line(&heads::bearer(random))
+        bearer_line(random)
     } else {
-        heads::policy_line(heads::policy(random))
+        policy_line(random)
     }
 }
 
@@ -192,47 +211,68 @@ fn miscount(line: &mut Line, random: &mut Random) {
     }
 }
 
-/// Writes this in the place of one of the line's numbers, or behind its words if it has none.
-fn spoil_number(line: &mut Line, word: &[u8], random: &mut Random) {
+/// Writes another word in the place of one of the line's numbers, or of any of them, or behind its
+/// words if it has none.
+fn spoil_numbers(line: &mut Line, random: &mut Random) {
     let first = if is_head(line) { 2 } else { 1 };
     if line.len() <= first {
-        line.push(word.into());
+        line.push(no_number(random));
         return;
     }
     let place = random.among(first as u64, line.len() as u64 - 1) as usize;
-    line[place] = word.into();
+    line[place] = no_number(random);
+    if random.chance(1, 2) {
+        for word in &mut line[first..] {
+            if random.chance(1, 2) {
+                *word = no_number(random);
+            }
+        }
+    }
+}
+
+fn no_number(random: &mut Random) -> Word {
+    if random.chance(1, 2) {
+        random.pick(&NO_NUMBERS).into()
+    } else {
+        random.pick(&LARGE).into()
+    }
 }
 
 /// Puts in bearers until there are nine, and answers the line of the ninth.
 fn ninth_bearer(lines: &mut Vec<Line>, random: &mut Random) -> usize {
-    put_in(b"bearer", 9, lines, random, |random| {
-        heads::bearer_line(&heads::bearer(random))
-    })
+    put_in(bearer_line, 9, lines, random)
 }
 
 /// Puts in policies until there are two, and answers the line of the second.
 fn second_policy(lines: &mut Vec<Line>, random: &mut Random) -> usize {
-    put_in(b"policy", 2, lines, random, |random| {
-        heads::policy_line(heads::policy(random))
-    })
+    put_in(policy_line, 2, lines, random)
 }
 
-/// Puts in lines before the first call until so many begin with this word, and answers which is
-/// the last of so many.
+/// Puts in lines before the first call until so many begin alike, and answers the last of so many.
 fn put_in(
-    word: &[u8],
+    line: fn(&mut Random) -> Line,
     count: usize,
     lines: &mut Vec<Line>,
     random: &mut Random,
-    line: fn(&mut Random) -> Line,
 ) -> usize {
     loop {
-        let mut such = (0..lines.len()).filter(|&at| begins(&lines[at], word));
+        let line = line(random);
+        let mut such = (0..lines.len()).filter(|&at| begins(&lines[at], &line[0]));
         if let Some(last) = such.nth(count - 1) {
             return last;
         }
         let at = random.among(0, head_len(lines) as u64) as usize;
-        lines.insert(at, line(random));
+        lines.insert(at, line);
+    }
+}
+
+/// Puts carriage returns behind a line's words, of which the last alone may be the line's end.
+fn put_return(line: &mut Line, random: &mut Random) {
+    let ends: [&[u8]; 5] = [b"\r", b"\r\r", b"\r ", b"\r#", b"\r # here"];
+    let end = random.pick(&ends);
+    match line.last_mut() {
+        Some(word) => word.extend(end),
+        None => line.push(end.into()),
     }
 }
 

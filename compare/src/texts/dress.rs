@@ -4,7 +4,8 @@
 use super::Line;
 use crate::random::Random;
 
-/// How a text is dressed: each kind of finery so many times of 32.
+/// How often each of these is put in: so many times of 32.
+#[derive(Default)]
 struct Dress {
     blanks: u64,
     comments: u64,
@@ -15,23 +16,17 @@ struct Dress {
 
 /// The lines as bytes. A third of all texts is plain.
 pub fn dressed(lines: &[Line], random: &mut Random) -> Vec<u8> {
-    let mut often = |most: &[u64]| random.pick(most);
-    let mut dress = Dress {
-        blanks: often(&[0, 1, 8]),
-        comments: often(&[0, 1, 8]),
-        returns: often(&[0, 1, 32]),
-        empty_lines: often(&[0, 1, 8]),
-        zeros: often(&[0, 1, 4]),
+    let dress = if random.chance(1, 3) {
+        Dress::default()
+    } else {
+        Dress {
+            blanks: random.pick(&[0, 1, 8]),
+            comments: random.pick(&[0, 1, 8]),
+            returns: random.pick(&[0, 1, 32]),
+            empty_lines: random.pick(&[0, 1, 8]),
+            zeros: random.pick(&[0, 1, 4]),
+        }
     };
-    if random.chance(1, 3) {
-        dress = Dress {
-            blanks: 0,
-            comments: 0,
-            returns: 0,
-            empty_lines: 0,
-            zeros: 0,
-        };
-    }
     let mut bytes = Vec::new();
     for line in lines {
         while random.chance(dress.empty_lines, 32) {

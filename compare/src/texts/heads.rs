@@ -29,8 +29,8 @@ pub fn lines(bearers: &[Bearer], policy: Option<(Policy, usize)>) -> Vec<Line> {
 
 /// A bearer of any kind, its depth mostly about those to which kinds cut.
 pub fn bearer(random: &mut Random) -> Bearer {
-    let edge = random.pick(&[0, 16, 17, 255, 256, 257]);
-    let wraps = random.pick(&[(1 << 16) + 5, 1 << 32, (1 << 32) + 5, 1 << 63, u64::MAX]);
+    let edge = random.pick(&[0, 16, 17, 255, 256, 257, u64::MAX]);
+    let wraps = random.pick(&[(1 << 16) + 5, 1 << 32, (1 << 32) + 5, 1 << 63]);
     Bearer {
         kind: random.pick(&[Kind::Ring, Kind::Mailbox]),
         depth: match random.below(8) {
