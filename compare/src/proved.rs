@@ -1,9 +1,9 @@
 //! The proved receiver and replay, behind the boundary of `crates/boundary`: its exports are declared here and nowhere
 //! else, and each is wrapped so that safe Rust can call it.
 
-use crate::terms::{Bearer, Kind, Policy, Refused, Replayed};
+use crate::terms::{Bearer, Ended, Kind, PassedBearer, PassedPolicy, Policy, Refused, Replayed};
 
-// The statuses of `crates/boundary` that are told apart here; any other is no answer.
+// The statuses of `crates/boundary` that are told apart here.
 const WRITTEN: u32 = 0;
 const REFUSED: u32 = 1;
 const TOO_SMALL: u32 = 2;
@@ -33,14 +33,14 @@ struct ReplayEnd {
 #[repr(C)]
 struct RawBearer {
     depth: usize,
-    is_mailbox: bool,
+    kind: u8,
     is_occupied: bool,
 }
 
 #[repr(C)]
 struct RawPolicy {
     figure: u32,
-    is_backlog: bool,
+    kind: u8,
 }
 
 #[repr(C)]
@@ -123,53 +123,78 @@ fn replayed(figures: &Figures) -> Replayed {
 ///
 /// If the bearers are none or more than eight, the text cannot be read, or memory runs out.
 pub fn answers(board: &[Bearer], policy: Policy, text: &str) -> String {
-    let bearers = raw_board(board);
+    let bearers: Vec<PassedBearer> = board.iter().map(passed).collect();
+    let policy = passed_policy(policy);
     let mut lines = vec![0; 64 + 8 * text.len()];
-    let mut end = calls(&bearers, policy, text.as_bytes(), &mut lines);
+    let mut end = make_calls(&bearers, policy, text.as_bytes(), &mut lines);
     if end.status == TOO_SMALL {
-        lines.resize(end.figure, 0);
-        end = calls(&bearers, policy, text.as_bytes(), &mut lines);
+        lines.resize(end.figure as usize, 0);
+        end = make_calls(&bearers, policy, text.as_bytes(), &mut lines);
     }
     assert_eq!(end.status, WRITTEN, "no answers; figure {}", end.figure);
-    lines.truncate(end.figure);
+    lines.truncate(end.figure as usize);
     String::from_utf8(lines).expect("the answers are ASCII")
 }
 
-fn calls(bearers: &[RawBearer], policy: Policy, text: &[u8], lines: &mut [u8]) -> CallsEnd {
+/// Makes the calls of a text on a new receiver over what a host passes, and writes the answers into
+/// memory that is lent for them.
+pub fn make_calls(
+    bearers: &[PassedBearer],
+    policy: PassedPolicy,
+    text: &[u8],
+    lines: &mut [u8],
+) -> Ended {
+    let bearers: Vec<RawBearer> = bearers.iter().map(raw).collect();
+    let policy = RawPolicy {
+        figure: policy.figure,
+        kind: policy.kind,
+    };
     // SAFETY: as for a replay; the bearers are initialised, and their `bool`s 0 or 1.
-    unsafe {
+    let end = unsafe {
         zuphlos_calls(
             bearers.as_ptr(),
             bearers.len(),
-            raw_policy(policy),
+            policy,
             text.as_ptr(),
             text.len(),
             lines.as_mut_ptr(),
             lines.len(),
         )
+    };
+    Ended {
+        status: end.status,
+        figure: end.figure as u64,
     }
 }
 
-fn raw_board(board: &[Bearer]) -> Vec<RawBearer> {
-    let raw = |bearer: &Bearer| RawBearer {
-        depth: bearer.depth as usize,
-        is_mailbox: bearer.kind == Kind::Mailbox,
-        is_occupied: bearer.occupied,
-    };
-    board.iter().map(raw).collect()
+fn raw(passed: &PassedBearer) -> RawBearer {
+    RawBearer {
+        depth: passed.depth as usize,
+        kind: passed.kind,
+        is_occupied: passed.occupied,
+    }
 }
 
-/// A figure beyond 32 bits is cut to the same as the greatest within.
-fn raw_policy(policy: Policy) -> RawPolicy {
+/// A bearer in numbers.
+pub fn passed(bearer: &Bearer) -> PassedBearer {
+    PassedBearer {
+        depth: bearer.depth,
+        kind: match bearer.kind {
+            Kind::Ring => 0,
+            Kind::Mailbox => 1,
+        },
+        occupied: bearer.occupied,
+    }
+}
+
+/// A policy in numbers. A figure beyond 32 bits is cut to the same as the greatest within.
+pub fn passed_policy(policy: Policy) -> PassedPolicy {
     match policy {
-        Policy::Fixed(figure) => RawPolicy {
+        Policy::Fixed(figure) => PassedPolicy {
             figure: u32::try_from(figure).unwrap_or(u32::MAX),
-            is_backlog: false,
+            kind: 0,
         },
-        Policy::Backlog => RawPolicy {
-            figure: 0,
-            is_backlog: true,
-        },
+        Policy::Backlog => PassedPolicy { figure: 0, kind: 1 },
     }
 }
 
@@ -262,23 +287,32 @@ mod tests {
 
     #[test]
     fn what_has_no_answers() {
-        let (board, policy) = (raw_board(&STANDARD), Policy::Backlog);
+        let board = STANDARD.map(|bearer| passed(&bearer));
+        let mut strange = board;
+        strange[2].kind = 2;
+        let backlog = passed_policy(Policy::Backlog);
+        let none = PassedPolicy { figure: 4, kind: 2 };
         let long = vec![b' '; 1_048_577];
-        for (bearers, text, status, figure) in [
+        for (bearers, policy, text, status, figure) in [
             (
                 &board[..],
+                backlog,
                 &b"configure 64000 32000 32 24 8 2"[..],
                 WRITTEN,
                 11,
             ),
-            (&board, b"step", TOO_SMALL, 51),
-            (&board, b"tell\n\nwork", 3, 3),
-            (&board, &long, 4, 0),
-            (&[], b"step", 5, 0),
+            (&board, backlog, b"step", TOO_SMALL, 51),
+            (&board, backlog, b"tell\n\nwork", 3, 3),
+            (&board, backlog, b"bearer ring 8", 3, 1),
+            (&board, backlog, b"tell\npolicy backlog", 3, 2),
+            (&board, backlog, &long, 4, 0),
+            (&[], backlog, b"step", 5, 0),
+            (&strange, backlog, b"step", 7, 0),
+            (&board, none, b"step", 7, 0),
         ] {
             let mut lines = [7; 11];
-            let end = calls(bearers, policy, text, &mut lines);
-            assert_eq!((end.status, end.figure), (status, figure));
+            let end = make_calls(bearers, policy, text, &mut lines);
+            assert_eq!(end, Ended { status, figure });
             assert!(status == WRITTEN || lines == [7; 11]);
         }
     }

@@ -7,7 +7,7 @@ pub use met::Met;
 use crate::lent::Lent;
 use crate::random::Random;
 use crate::terms::{Refused, Replayed};
-use crate::{proved, reference};
+use crate::{differences, proved, reference};
 
 pub type Outcome = Result<Replayed, Refused>;
 pub type Replay = fn(&[u8], &mut [u8], &mut [u8]) -> Outcome;
@@ -70,7 +70,7 @@ fn both(capture: &[u8], lengths: Lengths, seed: u64) -> Result<Made, String> {
     reference
         .keeps_to_tables()
         .map_err(|broken| format!("reference: {broken}"))?;
-    let differences = differences(&proved, &reference);
+    let differences = all_differences(&proved, &reference);
     if differences.is_empty() {
         return Ok(proved);
     }
@@ -120,14 +120,15 @@ impl Made {
 }
 
 /// What differs: of the figures the first, and of each table the first row.
-fn differences(proved: &Made, reference: &Made) -> Vec<String> {
+fn all_differences(proved: &Made, reference: &Made) -> Vec<String> {
     let figure = match (proved.outcome, reference.outcome) {
         (Ok(figures), Ok(others)) => figure(&figures, &others),
         (one, other) if one == other => None,
         (one, other) => Some(format!("proved {one:?}, reference {other:?}")),
     };
-    let packets = row("packets", proved.packets(), reference.packets());
-    let periods = row("periods", proved.periods(), reference.periods());
+    let row = |table, one, other| differences::line(table, "proved", one, other);
+    let packets = row("packets table", proved.packets(), reference.packets());
+    let periods = row("periods table", proved.periods(), reference.periods());
     [figure, packets, periods].into_iter().flatten().collect()
 }
 
@@ -149,20 +150,6 @@ fn figure(proved: &Replayed, reference: &Replayed) -> Option<String> {
     let mut pairs = names(proved).into_iter().zip(names(reference));
     let ((name, one), (_, other)) = pairs.find(|(one, other)| one != other)?;
     Some(format!("{name}: proved {one}, reference {other}"))
-}
-
-fn row(table: &str, proved: &[u8], reference: &[u8]) -> Option<String> {
-    if proved == reference {
-        return None;
-    }
-    let mut rows = proved.split_inclusive(|&byte| byte == b'\n');
-    let mut others = reference.split_inclusive(|&byte| byte == b'\n');
-    let pair = std::iter::from_fn(|| Some((rows.next(), others.next())))
-        .find(|(one, other)| one != other)?;
-    let [one, other] = [pair.0, pair.1].map(|row| row.map(String::from_utf8_lossy));
-    Some(format!(
-        "{table} table: proved {one:?}, reference {other:?}"
-    ))
 }
 
 /// Lengths about those of the tables; of a refused capture, any, none included.

@@ -47,6 +47,28 @@ pub enum Policy {
     Backlog,
 }
 
+/// A bearer as a host passes it to the boundary. Its kind is a number, perhaps of none.
+#[derive(Clone, Copy, PartialEq, Eq, Debug)]
+pub struct PassedBearer {
+    pub depth: u64,
+    pub kind: u8,
+    pub occupied: bool,
+}
+
+/// A batch policy as a host passes it. Of another policy than the fixed one the figure says nothing.
+#[derive(Clone, Copy, PartialEq, Eq, Debug)]
+pub struct PassedPolicy {
+    pub figure: u32,
+    pub kind: u8,
+}
+
+/// How the calls of a text ended at the boundary: the status, and the number beside it or 0.
+#[derive(Clone, Copy, PartialEq, Eq, Debug)]
+pub struct Ended {
+    pub status: u32,
+    pub figure: u64,
+}
+
 /// A call of a receiver. A receipt is named by its number.
 #[derive(Clone, Copy, PartialEq, Eq, Debug)]
 pub enum Call {

@@ -16,19 +16,24 @@ const GREATEST_HOLD: u64 = 1_000;
 /// The standard board with its policy in a third of all cases.
 pub fn board(random: &mut Random) -> (Vec<Bearer>, Policy) {
     if random.chance(1, 3) {
-        let board = [(Kind::Ring, 8), (Kind::Mailbox, 4), (Kind::Ring, 16)];
-        let board = board.map(|(kind, depth)| Bearer {
-            kind,
-            depth,
-            occupied: false,
-        });
-        return (board.to_vec(), Policy::Fixed(4));
+        return standard();
     }
     let occupied = random.chance(1, 12);
     let bearers = (0..random.among(1, 8))
         .map(|_| bearer(occupied, random))
         .collect();
     (bearers, policy(random))
+}
+
+/// The board and the policy of the standard receiver.
+pub fn standard() -> (Vec<Bearer>, Policy) {
+    let board = [(Kind::Ring, 8), (Kind::Mailbox, 4), (Kind::Ring, 16)];
+    let board = board.map(|(kind, depth)| Bearer {
+        kind,
+        depth,
+        occupied: false,
+    });
+    (board.to_vec(), Policy::Fixed(4))
 }
 
 fn bearer(occupied: bool, random: &mut Random) -> Bearer {
@@ -72,7 +77,7 @@ pub fn settings(bearers: &[Bearer], policy: Policy, random: &mut Random) -> Sett
 }
 
 /// The greatest charge of a grant, by the rule for settings.
-fn grant_bound(bearers: &[Bearer], policy: Policy) -> u64 {
+pub fn grant_bound(bearers: &[Bearer], policy: Policy) -> u64 {
     let ring = bearers.iter().any(|bearer| bearer.kind == Kind::Ring);
     let batch = match policy {
         Policy::Fixed(_) => 16,

@@ -4,7 +4,7 @@ use super::packets::Packet;
 use crate::terms::{self, Kind};
 use std::collections::VecDeque;
 
-const MOST_BEARERS: usize = 8;
+pub const MOST_BEARERS: usize = 8;
 
 /// The packet that waits in an occupied bearer.
 const OCCUPANT: Packet = Packet {

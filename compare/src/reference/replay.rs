@@ -7,29 +7,14 @@ use super::clock::Period;
 use super::policies::Policy;
 use super::receiver::{Arrived, Receipt, Receiver, Stepped};
 use super::refusals::Refusal;
+use super::standard::{BEARERS, PERIOD, POLICY, SETTINGS};
 use super::tables;
-use crate::terms::{self, Bearer, Kind, Refused, Replayed};
+use crate::terms::{Refused, Replayed};
 
-const BEARERS: [Bearer; 3] = [
-    bearer(Kind::Ring, 8),
-    bearer(Kind::Mailbox, 4),
-    bearer(Kind::Ring, 16),
-];
-const BATCH: terms::Policy = terms::Policy::Fixed(4);
-const PERIOD: u64 = 64_000;
-const SETTINGS: [u64; 6] = [PERIOD, 32_000, 32, 24, 8, 2];
 const CYCLES_PER_MICROSECOND: u64 = 64;
 const APPLICATION_COST: u64 = 2_000;
 const MOST_PERIODS: u64 = 1_000;
 const ACCEPTED: &str = "the turns make only calls that are accepted";
-
-const fn bearer(kind: Kind, depth: u64) -> Bearer {
-    Bearer {
-        kind,
-        depth,
-        occupied: false,
-    }
-}
 
 /// What became of a packet.
 #[derive(Clone, Copy, PartialEq, Eq, Debug)]
@@ -101,7 +86,7 @@ fn front(memory: &mut [u8], needed: usize) -> Result<&mut [u8], Refusal> {
 
 impl<'a> Replay<'a> {
     fn new(packets: &'a [Captured]) -> Replay<'a> {
-        let mut receiver = Receiver::new(Board::new(&BEARERS), Policy::new(BATCH));
+        let mut receiver = Receiver::new(Board::new(&BEARERS), Policy::new(POLICY));
         receiver.configure(SETTINGS).expect(ACCEPTED);
         Replay {
             packets,
