@@ -34,8 +34,8 @@ answer_by (Some bs) (Some p) text = result_map_both (λ lines. lines) failure_en
 answer_by _ _ text = Err (end UNKNOWN_KIND 0)
 
 -- and by their numbers
-abbrev pub answer_to : List RawBearer → RawPolicy → List ℕ → Result (List ℕ) CallsEnd
-answer_to bs p text = cond (is_board bs) (answer_by (setups_of bs) (policy_of p) text) (Err (end NO_BOARD 0))
+abbrev pub calls_answer : List RawBearer → RawPolicy → List ℕ → Result (List ℕ) CallsEnd
+calls_answer bs p text = cond (is_board bs) (answer_by (setups_of bs) (policy_of p) text) (Err (end NO_BOARD 0))
 
 -- how the calls end then, with so much memory
 abbrev pub calls_end : Result (List ℕ) CallsEnd → List ℕ → CallsEnd

@@ -1,10 +1,10 @@
 ghost use Rattle.std.specs.Prelude.{◌≡◌, ◌≢◌, Ok, Err, IfErr, IfOk, false, true, string_bytes};
 ghost use Rattle.setup.specs.Setups.{is_board};
-ghost use Rattle.boundary.specs.Calls.{answer_to, calls_end, end, failure_end, is_known, memory_left};
+ghost use Rattle.boundary.specs.Calls.{calls_answer, calls_end, end, failure_end, is_known, memory_left};
 
 use crate::setups::{RawBearer, RawPolicy, policy, setups};
 use crate::statuses::{NO_BOARD, NO_MEMORY, TOO_LONG, TOO_SMALL, UNKNOWN_KIND, UNREAD, WRITTEN};
-use setup::MOST_BEARERS;
+use board::MOST_BEARERS;
 use std::alloc::Global;
 use table::put;
 use transcript::{Failure, run_on};
@@ -47,8 +47,8 @@ fn lines(
 ) -> Result<String, CallsEnd>
     ensures no_board { is_board bearers.now ≡ false → result ≡ Err (end NO_BOARD 0) }
     ensures unknown_kind { is_board bearers.now ≡ true → is_known bearers.now raw_policy ≡ false → result ≡ Err (end UNKNOWN_KIND 0) }
-    ensures ok { IfOk result (λ lines. answer_to bearers.now raw_policy text.now ≡ Ok (string_bytes lines)) }
-    ensures err { IfErr result (λ e. e.status ≢ NO_MEMORY → answer_to bearers.now raw_policy text.now ≡ Err e) }
+    ensures ok { IfOk result (λ lines. calls_answer bearers.now raw_policy text.now ≡ Ok (string_bytes lines)) }
+    ensures err { IfErr result (λ e. e.status ≢ NO_MEMORY → calls_answer bearers.now raw_policy text.now ≡ Err e) }
     ensures no_memory { IfErr result (λ e. e.status ≡ NO_MEMORY → e.figure ≡ 0) }
 {
     if bearers.is_empty() || bearers.len() > MOST_BEARERS {
@@ -70,11 +70,11 @@ pub extern "C" fn zuphlos_calls(
     text: &[u8],
     answers: &mut [u8],
 ) -> CallsEnd
-    ensures value { result.status ≢ NO_MEMORY → result ≡ calls_end (answer_to bearers.now policy text.now) answers.old }
+    ensures value { result.status ≢ NO_MEMORY → result ≡ calls_end (calls_answer bearers.now policy text.now) answers.old }
     ensures no_board { is_board bearers.now ≡ false → result ≡ end NO_BOARD 0 }
     ensures unknown_kind { is_board bearers.now ≡ true → is_known bearers.now policy ≡ false → result ≡ end UNKNOWN_KIND 0 }
     ensures no_memory { result.status ≡ NO_MEMORY → result.figure ≡ 0 }
-    ensures written { result.status ≡ WRITTEN → answers.new ≡ memory_left (answer_to bearers.now policy text.now) answers.old }
+    ensures written { result.status ≡ WRITTEN → answers.new ≡ memory_left (calls_answer bearers.now policy text.now) answers.old }
     ensures same { result.status ≢ WRITTEN → answers.new ≡ answers.old }
 {
     match lines(alloc, bearers, policy, text) {
