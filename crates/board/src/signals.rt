@@ -22,12 +22,12 @@ impl Signal {
     }
 
     /// After a packet was taken. The signal goes down if none is left.
-    pub(crate) fn after_take(self, any_in: bool) -> Signal
+    pub(crate) fn after_take(self, any_left: bool) -> Signal
         ensures armed { is_armed result ≡ is_armed self }
-        ensures up { is_up result ≡ (is_up self && any_in) }
+        ensures up { is_up result ≡ (is_up self && any_left) }
     {
         match self {
-            Signal::Up if !any_in => Signal::Down,
+            Signal::Up if !any_left => Signal::Down,
             _ => self,
         }
     }

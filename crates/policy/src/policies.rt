@@ -4,7 +4,7 @@ ghost use Rattle.policy.specs.Batches.{Batches, IsBounded};
 /// Says how many packets a grant may take, by the bearer's number and the packets waiting there.
 ///
 /// A quota lies in 1 to `GREATEST`, and is the same when it is asked for again.
-/// Code above a policy may use no more of it than its meaning and the bounds that this keeps.
+/// Code above a policy may use no more of it than its meaning and the bounds that it keeps.
 pub trait Policy {
     /// The greatest batch M, which is 1 to 64.
     const GREATEST: u32;
