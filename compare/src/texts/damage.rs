@@ -199,14 +199,14 @@ fn misname_kind(lines: &mut Vec<Line>, at: usize, random: &mut Random) -> usize 
     at
 }
 
-/// A word too few, or one or two too many, which need not be numbers.
+/// A word too few, or one or two too many, which mostly are no numbers.
 fn miscount(line: &mut Line, random: &mut Random) {
-    if random.chance(1, 2) {
+    if random.chance(1, 3) {
         line.pop();
         return;
     }
     for _ in 0..random.among(1, 2) {
-        let more: [&[u8]; 4] = [b"0", b"4", b"x", b"18446744073709551616"];
+        let more: [&[u8]; 4] = [b"0", b"x", b"+1", b"18446744073709551616"];
         line.push(random.pick(&more).into());
     }
 }
