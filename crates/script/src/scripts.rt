@@ -4,12 +4,10 @@ use crate::calls::Name;
 use crate::faults::Fault;
 use crate::keywords::Keyword;
 use crate::setups::{bearer, policy};
+use board::MOST_BEARERS;
 use machine::Call;
 use setup::{BearerSetup, PolicySetup};
 use std::alloc::{AllocError, Global};
-
-/// No board shows more bearers than this.
-const MOST_BEARERS: usize = 8;
 
 /// What a text says: what a receiver is to be put up over, and the calls that are to be made on it.
 #[derive(Drop)]
