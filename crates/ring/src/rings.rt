@@ -1,4 +1,4 @@
-ghost use Rattle.std.specs.Prelude.{◌≡◌, false, [], ◌∷◌, ◌++◌, length, drop, if◌then◌else◌, Ok, Err};
+ghost use Rattle.std.specs.Prelude.{◌≡◌, min, false, [], ◌∷◌, ◌++◌, length, drop, if◌then◌else◌, Ok, Err};
 ghost use Rattle.std.specs.List.{slice_get};
 ghost use Rattle.ring.specs.Queue.{usable, beyond, ring_capacity, ring_elements, has_room};
 
@@ -42,6 +42,7 @@ impl<'a, T: Copy, const MOST: usize> Ring<'a, T, MOST> {
     /// How many elements it holds.
     pub fn len(&self) -> usize
         ensures value { result ≡ length (ring_elements self.now) }
+        ensures within { result ≡ min self.now.cursor.len (ring_capacity self.now) }
     {
         self.cursor.len(self.usable())
     }
