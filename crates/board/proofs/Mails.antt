@@ -62,10 +62,14 @@ module _ {s : List (Option Held)} {d n : ℕ} {m : Mail} (is : record { depth = 
     pub kept_popped : (d ≤ 16) × (n - 1 ≤ d) × Numbers (map advanced s) (n - 1)
     kept_popped = (kept.0, omega arith, numbers_advanced s n any_in kept.2)
 
-  -- with none to be found, the line is empty
-  module _ (none : None ≡ held_at s 0) where
+  -- none is found only of none
+  pub none_held : None ≡ held_at s 0 → n ≡ 0
+  none_held none = held_none s n kept.2 (sym none)
+
+  -- with none, the line is empty
+  module _ (none : n ≡ 0) where
     empty : mail_packets m ≡ []
-    empty = packets_are ∙ ap (line s) (held_none s n kept.2 (sym none)) ∙ line_none s
+    empty = packets_are ∙ ap (line s) none ∙ line_none s
 
     pub none_shown : None ≡ slice_get (mail_packets m) 0
     none_shown = sym (ap (λ ps. slice_get ps 0) empty)

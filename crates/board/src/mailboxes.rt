@@ -131,18 +131,24 @@ impl Line for Mailbox {
     }
 
     fn push(&mut self, packet: Packet) -> Result<(), Packet> {
+        if self.count >= self.depth {
+            return Err(packet);
+        }
         match first_free(&self.slots) {
-            Some(free) if self.count < self.depth => {
+            Some(free) => {
                 let place = self.count as u8;
                 self.slots[free] = Some(Held { packet, place });
                 self.count += 1;
                 Ok(())
             }
-            _ => Err(packet),
+            None => Err(packet),
         }
     }
 
     fn pop(&mut self) -> Option<Packet> {
+        if self.count == 0 {
+            return None;
+        }
         let held = oldest(&self.slots)?;
         advance(&mut self.slots);
         self.count -= 1;

@@ -1,16 +1,19 @@
 use Rattle.std.proofs.Common.{sym, ap, ◌∙◌, subst, ◌≤◌, ◌-◌}
 use Rattle.board.specs.Mailbox.{Numbers, line, mail_packets}
-use Rattle.board.proofs.Mails.{any_in, popped, first_shown, kept_popped, none_shown, none_popped}
+use Rattle.board.proofs.Mails.{popped, first_shown, kept_popped, none_held, none_shown, none_popped}
 use Rattle.board.proofs.mailboxes.MailboxLine.pop.Goals as goal
 
+pub returns-then-self-eq0-clause-value : goal.returns-then-self-eq0-clause-value
+returns-then-self-eq0-clause-value c = none_shown c.self.view_is c.self.invariant c.if-self-eq0.true
+
+pub returns-then-self-eq0-clause-after : goal.returns-then-self-eq0-clause-after
+returns-then-self-eq0-clause-after c = none_popped c.self.view_is c.self.invariant c.if-self-eq0.true
+
 pub returns-in_err-held-clause-value : goal.returns-in_err-held-clause-value
-returns-in_err-held-clause-value c = c.from_residual.ensures ∙ none_shown c.self.view_is c.self.invariant c.in_err-held.ensures.value
+returns-in_err-held-clause-value c = c.from_residual.ensures ∙ none_shown c.self.view_is c.self.invariant (none_held c.self.view_is c.self.invariant c.in_err-held.ensures.value)
 
 pub returns-in_err-held-clause-after : goal.returns-in_err-held-clause-after
-returns-in_err-held-clause-after c = none_popped c.self.view_is c.self.invariant c.in_err-held.ensures.value
-
-pub overflow_sub-self : goal.overflow_sub-self
-overflow_sub-self c = any_in c.self.view_is c.self.invariant c.in_ok-held.ensures.value
+returns-in_err-held-clause-after c = none_popped c.self.view_is c.self.invariant (none_held c.self.view_is c.self.invariant c.in_err-held.ensures.value)
 
 pub invariant_of-self : goal.invariant_of-self
 invariant_of-self c =
