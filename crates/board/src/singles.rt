@@ -113,7 +113,7 @@ impl<L: Line> Board for Single<L> {
         ensures kind { ⟦<Single<L> as Board>⟧.bearers self.new ≡ changed (⟦<Single<L> as Board>⟧.bearers self.old) bearer (after_arm L.level) }
         ensures same { self.new.line ≡ self.old.line }
     {
-        if bearer == 0 {
+        if bearer == 0 && self.signal == Signal::Disarmed {
             self.signal = self
                 .signal
                 .armed(self.line.is_level() && self.line.len() > 0);
