@@ -32,9 +32,13 @@ setting_place High = 4
 setting_place Low = 5
 setting_place Hold = 6
 
+-- the refusal of a setting
+abbrev pub bad_setting : Setting → Refusal
+bad_setting setting = BadSetting (setting_place setting)
+
 -- what is at fault, or 0
 abbrev pub place_of : Refusal → ℕ
-place_of (BadSetting setting) = setting_place setting
+place_of (BadSetting setting) = setting
 place_of (NotShown b) = b
 place_of (BadLength n) = n
 place_of (PacketWaits b) = b

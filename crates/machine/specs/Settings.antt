@@ -4,8 +4,8 @@ use Rattle.board.specs.Bearers.{Bearer}
 use Rattle.board.specs.Costs.{highest_class_cost}
 use Rattle.machine.specs.declared.calls.RawSettings.{RawSettings}
 use Rattle.machine.specs.declared.calls.Setting.TheVariants.{Period, Limit, Size, High, Low, Hold}
-use Rattle.machine.specs.declared.refusals.Refusal.TheVariants.{BadSetting}
 use Rattle.machine.specs.Checks.{Check, in_range}
+use Rattle.machine.specs.Refusals.{bad_setting}
 
 -- what configure fixes for as long as the receiver is used
 pub record Settings : Type 0 where
@@ -23,12 +23,12 @@ settings_from n = record { period = n.period; limit = n.limit; size = n.size; hi
 -- which are in their ranges, in the order P, N, S, H, L, T
 abbrev pub settings_checks : RawSettings → List Check
 settings_checks n =
-    (in_range 1000 1000000000 n.period, BadSetting Period)
-    ∷ (in_range 1 n.period n.limit, BadSetting Limit)
-    ∷ (in_range 1 64 n.size, BadSetting Size)
-    ∷ (in_range 1 n.size n.high, BadSetting High)
-    ∷ (nat_lt n.low n.high, BadSetting Low)
-    ∷ (in_range 1 1000 n.hold, BadSetting Hold)
+    (in_range 1000 1000000000 n.period, bad_setting Period)
+    ∷ (in_range 1 n.period n.limit, bad_setting Limit)
+    ∷ (in_range 1 64 n.size, bad_setting Size)
+    ∷ (in_range 1 n.size n.high, bad_setting High)
+    ∷ (nat_lt n.low n.high, bad_setting Low)
+    ∷ (in_range 1 1000 n.hold, bad_setting Hold)
     ∷ []
 
 abbrev pub highest_cost : List Bearer → ℕ

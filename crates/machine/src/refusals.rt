@@ -1,13 +1,13 @@
 ghost use Rattle.std.specs.Prelude.{◌≡◌};
-ghost use Rattle.machine.specs.Refusals.{number_of, place_of};
+ghost use Rattle.machine.specs.Refusals.{number_of, place_of, bad_setting};
 
 use crate::calls::Setting;
 
 /// Why a receiver refuses a call.
 #[derive(Clone, Copy, PartialEq, Eq, Debug)]
 pub enum Refusal {
-    /// A setting is outside its range: the first such.
-    BadSetting(Setting),
+    /// A setting is outside its range: the first such, by its place, 1 to 6. See [`Setting`].
+    BadSetting(u8),
     /// The bearers' limit and the grant bound together are above the period.
     NoShare,
     /// The board does not show this bearer.
@@ -69,11 +69,19 @@ impl Refusal {
     {
         // Not one trait with `capture`'s refusals: the variants differ, and no code is generic over both.
         match self {
-            Refusal::BadSetting(setting) => setting as u64,
+            Refusal::BadSetting(setting) => u64::from(setting),
             Refusal::NotShown(bearer) | Refusal::PacketWaits(bearer) => bearer as u64,
             Refusal::BadLength(length) => length as u64,
             Refusal::PastPeriod(left) => left,
             _ => 0,
         }
+    }
+}
+
+impl From<Setting> for Refusal {
+    ghost from_gives = { λ setting r. r ≡ bad_setting setting };
+
+    fn from(setting: Setting) -> Refusal {
+        Refusal::BadSetting(setting as u8)
     }
 }

@@ -2,8 +2,9 @@ use crate::{Refusal, Setting};
 
 #[test]
 fn refusals(rt: HostRuntime) {
-    let cases: [(Refusal, u8, u64); 16] = [
-        (Refusal::BadSetting(Setting::Low), 1, 5),
+    let cases: [(Refusal, u8, u64); 17] = [
+        (Refusal::from(Setting::Low), 1, 5),
+        (Refusal::BadSetting(255), 1, 255),
         (Refusal::NoShare, 2, 0),
         (Refusal::NotShown(8), 4, 8),
         (Refusal::BadLength(385), 5, 385),
@@ -37,6 +38,6 @@ fn settings(rt: HostRuntime) {
         (Setting::Hold, 6),
     ];
     for (setting, place) in cases {
-        assert_eq!(rt; Refusal::BadSetting(setting).place(), place);
+        assert_eq!(rt; Refusal::from(setting).place(), place);
     }
 }

@@ -57,7 +57,7 @@ impl<B: Board, P: Policy> Receiver<B, P> {
         }
         let settings = match Settings::new(numbers) {
             Ok(settings) => settings,
-            Err(setting) => return Err(Refusal::BadSetting(setting)),
+            Err(setting) => return Err(Refusal::from(setting)),
         };
         self.core.check_waiting()?;
         self.core.check_share(&settings, P::GREATEST)?;

@@ -18,15 +18,15 @@ impl Settings {
     ghost use Rattle.std.specs.Prelude.{◌≡◌, IfOk};
     ghost use Rattle.std.specs.Option.{option_map};
     ghost use Rattle.std.specs.Result.{result_err};
-    ghost use Rattle.machine.specs.declared.refusals.Refusal.TheVariants.{BadSetting};
     ghost use Rattle.machine.specs.Checks.{first_refusal};
+    ghost use Rattle.machine.specs.Refusals.{bad_setting};
     ghost use Rattle.machine.specs.Settings.{settings_checks, settings_from};
     ghost use Rattle.receiver.specs.Settings.{settings_of};
 
     /// The settings of these numbers, or the first of them that is out of its range.
     pub fn new(numbers: RawSettings) -> Result<Settings, Setting>
         ensures value { IfOk result (λ s. settings_of s ≡ settings_from numbers) }
-        ensures first { option_map BadSetting (result_err result) ≡ first_refusal (settings_checks numbers) }
+        ensures first { option_map bad_setting (result_err result) ≡ first_refusal (settings_checks numbers) }
     {
         let RawSettings {
             period,

@@ -267,7 +267,7 @@ fn refusals(rt: HostRuntime) -> Result<(), Fail> {
     let alloc = rt.alloc();
     let text = refusal(alloc, Refusal::NotShown(7))?;
     assert!(rt; text.as_str() == "refused 4 place 7: the board does not show this bearer");
-    let text = refusal(alloc, Refusal::BadSetting(Setting::Low))?;
+    let text = refusal(alloc, Refusal::from(Setting::Low))?;
     assert!(rt; text.as_str() == "refused 1 place 5: the setting is outside its range");
     let text = refusal(alloc, Refusal::NotOut)?;
     assert!(rt; text.as_str() == "refused 30 place 0: the receipt's number is not out");

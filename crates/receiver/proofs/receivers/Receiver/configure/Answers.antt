@@ -1,4 +1,4 @@
-use Rattle.std.proofs.Common.{◌≡◌, ◌∙◌, Ok, Option, ap, sym, subst, refl, rules}
+use Rattle.std.proofs.Common.{◌≡◌, ◌∙◌, Ok, Some, Option, ap, sym, subst, refl, rules}
 use Rattle.machine.specs.declared.answers.Answer.TheVariants.{Configured}
 use Rattle.machine.specs.declared.calls.Call.TheVariants.{Configure}
 use Rattle.machine.specs.Kept.{KeptState}
@@ -21,7 +21,7 @@ returns-then-is_some g c =
 pub returns-in-Err : goal.returns-in-Err
 returns-in-Err g c =
     declines g.P.Policy.meaning c.self.inside.core c.self.view_is (unconfigured c.self.inside.settings c.if-is_some.ensures) (Configure c.args.numbers)
-    (out_of_range (g.P.Policy.meaning c.self.inside.policy) c.args.numbers c.self.inside.core.bearers _ c.in-Err.ensures.first)
+    (out_of_range (g.P.Policy.meaning c.self.inside.policy) c.args.numbers c.self.inside.core.bearers _ (ap Some c.from.ensures ∙ c.in-Err.ensures.first))
 
 pub returns-in_err-check_waiting : goal.returns-in_err-check_waiting
 returns-in_err-check_waiting g c =
