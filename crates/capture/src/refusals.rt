@@ -2,6 +2,7 @@ ghost use Rattle.std.specs.Prelude.{◌≡◌};
 ghost use Rattle.capture.specs.Refusals.{number, place};
 ghost use Rattle.capture.specs.declared.refusals.ReadError.TheVariants as error;
 
+use std::alloc::AllocFailed;
 use std::fmt;
 
 /// Why a capture is not read. A record's fault carries the record's offset in the file.
@@ -92,5 +93,14 @@ impl From<Refusal> for ReadError {
 
     fn from(refusal: Refusal) -> ReadError {
         ReadError::Refused(refusal)
+    }
+}
+
+/// For a caller that keeps packets of its own choice. [`read`](crate::read) reads on first, since the capture may be refused.
+impl<T: Drop> From<AllocFailed<T>> for ReadError {
+    ghost from_gives = { λ _ r. r ≡ error.Memory };
+
+    fn from(_e: AllocFailed<T>) -> ReadError {
+        ReadError::Memory
     }
 }
