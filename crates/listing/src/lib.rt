@@ -22,7 +22,7 @@ const SHOWN: usize = 3;
 #[derive(Drop)]
 pub struct Listing {
     pub outcome: Result<usize, Refusal>,
-    /// In bytes, since `table` writes its rows in place.
+    /// In bytes, as `table` appends its rows.
     pub text: Vec<u8>,
 }
 

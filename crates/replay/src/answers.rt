@@ -40,7 +40,7 @@ pub struct Replayed {
 #[derive(Drop)]
 pub struct Tables {
     pub figures: Figures,
-    /// In bytes, since `table` writes its rows in place.
+    /// In bytes, as `table` appends its rows.
     pub packets: Vec<u8>,
     pub periods: Vec<u8>,
 }

@@ -28,6 +28,6 @@ impl Table {
 #[derive(Drop)]
 pub struct Report {
     pub outcome: Result<Figures, Refusal>,
-    /// In bytes, since `table` writes its rows in place.
+    /// In bytes, as `table` appends its rows.
     pub text: Vec<u8>,
 }
